@@ -1,0 +1,54 @@
+-- What is stored, of a result that is a number and of one that is not; and sums of products. Assumes nothing.
+use mathlib.Core.Path.{_≡_, refl, sym, ap, _∙_, subst}
+use mathlib.Core.Bool.{true, false, not}
+use Prim.Native.Nat.{ℕ, zero, suc, _+_, _%_, _<_}
+use native.Mathlib.Nat.{le-refl, le-step}
+use native.Mathlib.Numerals.{add-one}
+use borrow.Author.Tests.{lt-ltb}
+use lib.Dec.{T}
+use lib.Ieee.{Float, nan, inf, fin, binary32, add, mul, ne, isNan, ofBits, toBits}
+use lib.Ieee.Bits.{nanBits-is, nanBits-above}
+use lib.Ieee.Compare.{differs-from-itself, nan-differs}
+use Rattle.product.specs.Product.{patternOf, storedOf, sumFrom}
+
+is-nan : (x : Float) → isNan x ≡ true → x ≡ nan
+unfolding isNan
+is-nan nan h = refl
+is-nan (inf s) h = absurd (subst T (sym h) tt)
+is-nan (fin s m e) h = absurd (subst T (sym h) tt)
+
+pub old-nan : (old : ℕ) (s : Float) → 2139095040 < old % 2147483648 → 0x7FC0_0000 ≡ storedOf old s
+unfolding storedOf patternOf isNan add
+old-nan old s h =
+    let e : ofBits binary32 old ≡ nan = is-nan (ofBits binary32 old) (sym (nanBits-is binary32 old) ∙ nanBits-above binary32 old ∙ lt-ltb 2139095040 (old % 2147483648) h) in
+    sym (ap (λ (x : Float). patternOf (add binary32 x s)) e)
+
+pub no-number : (x : Float) → ne x x ≡ true → 0x7FC0_0000 ≡ patternOf x
+unfolding patternOf isNan
+no-number x h = sym (ap patternOf (differs-from-itself x (subst T (sym h) tt)))
+
+pub a-number : (x : Float) → ne x x ≡ false → T (not (isNan x))
+unfolding isNan
+a-number nan h = absurd (subst T (sym nan-differs ∙ h) tt)
+a-number (inf s) h = tt
+a-number (fin s m e) h = tt
+
+pub number-stored : (x : Float) → T (not (isNan x)) → toBits binary32 x ≡ patternOf x
+unfolding patternOf isNan
+number-stored nan h = absurd h
+number-stored (inf s) h = refl
+number-stored (fin s m e) h = refl
+
+-- ---- sums of products
+
+-- one product more
+pub sum-more : (z : Float) (f g : ℕ → Float) (k : ℕ) → sumFrom z f g (k + 1) ≡ add binary32 (sumFrom z f g k) (mul binary32 (f k) (g k))
+unfolding sumFrom
+sum-more z f g k = ap (sumFrom z f g) (add-one k)
+
+-- a sum goes by its first n factors alone
+pub sum-same : (z : Float) (f f′ g g′ : ℕ → Float) (n : ℕ) → ((k : ℕ) → k < n → f k ≡ f′ k) → ((k : ℕ) → k < n → g k ≡ g′ k) → sumFrom z f g n ≡ sumFrom z f′ g′ n
+unfolding sumFrom
+sum-same z f f′ g g′ zero p q = refl
+sum-same z f f′ g g′ (suc n) p q =
+    λ i. add binary32 (sum-same z f f′ g g′ n (λ k h. p k (le-step h)) (λ k h. q k (le-step h)) i) (mul binary32 (p n (le-refl (suc n)) i) (q n (le-refl (suc n)) i))

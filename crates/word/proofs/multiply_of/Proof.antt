@@ -1,0 +1,18 @@
+use native.Mathlib.Nat.{div-one}
+use borrow.Author.Needs.{needs}
+use Rattle.word.proofs.multiply_of.Statement.{statement}
+use Rattle.word.proofs.multiply_of.Tie as tie
+use Rattle.word.proofs.multiply_of.Reads as reads
+use Rattle.word.proofs.multiply_of.Lts as lts
+use Rattle.word.proofs.clear_of.Reads as clear-of-reads
+
+-- src/lib.rt:236:9
+clear-of-requires : tie.Need-clear-of-requires
+clear-of-requires c κs = search needs
+
+-- src/lib.rt:233:1
+returns : tie.Need-returns
+returns c = simp ((c .clear-of .ensures), div-one)
+
+pub multiply-of-spec : {M : Type 1} → statement M
+multiply-of-spec = tie.close (tie.spec clear-of-requires returns)
