@@ -4,22 +4,15 @@ use mathlib.Core.Bool.{Bool, cond, _&&_}
 use Prim.Native.Nat.{ℕ}
 use lib.Dec.{ltb}
 use Rattle.word.specs.declared.Refusal.the-variants.{StateLength, Shape}
-use Rattle.word.specs.declared.Read.{Read}
-use Rattle.word.specs.declared.Read.the-variants as read
 use Rattle.control.specs.declared.Control.{Control}
 use Rattle.control.specs.Range.{inRange}
 use Rattle.step.specs.State.{State, sized}
-use Rattle.step.specs.Rules.{judgement}
-use Rattle.step.specs.After.{controlAfter}
+use Rattle.rules.specs.Rules.{judgement}
+use Rattle.rules.specs.After.{controlAfter}
 use Rattle.step.specs.Effect.{stateAfter}
-use Rattle.step.specs.declared.Verdict.{Verdict}
-use Rattle.step.specs.declared.Verdict.the-variants.{Done, Refused}
+use Rattle.rules.specs.declared.Verdict.{Verdict}
+use Rattle.rules.specs.declared.Verdict.the-variants.{Done, Refused}
 use Rattle.step.specs.declared.Stepped.{Stepped}
-
--- a word that is not read is refused by the reader's number
-abbrev pub readVerdict : Read → Verdict
-readVerdict (read.Fields f) = Done
-readVerdict (read.Refused r) = Refused r
 
 unfoldable pub verdictOf : Control → ℕ → ℕ → State → Verdict
 verdictOf c t w s =

@@ -1,7 +1,7 @@
 // What an instruction does to the lent numbers.
-use crate::access;
-use crate::rows;
 use control::Control;
+use product::Product;
+use rules::rows;
 use word::Fields;
 use word::Multiply;
 use word::Operation;
@@ -19,16 +19,30 @@ ghost use Rattle.product.specs.Product.{multiplied};
 ghost use Rattle.word.specs.declared.Fields.the-variants as fields;
 ghost use Rattle.word.specs.Word.{FieldsOk};
 ghost use Rattle.step.specs.State.{State, state, sized};
-ghost use Rattle.step.specs.Rows.{rowDst, productOf, filledA, filledB};
-ghost use Rattle.step.specs.Rules.{rowWrong};
-ghost use Rattle.step.specs.Effect.{fillA, shiftA, shiftB, bitwiseOf, shiftOf, compareOf, scalarOf, operandB, scalar, fieldsEffect};
+ghost use Rattle.rules.specs.Rows.{rowDst, filledA, filledB};
+ghost use Rattle.rules.specs.Rules.{rowWrong};
+ghost use Rattle.step.specs.Effect.{productOf, fillA, shiftA, shiftB, bitwiseOf, shiftOf, compareOf, scalarOf, operandB, scalar, fieldsEffect};
+
+fn product_of(c: Control, thread: u8, m: Multiply) -> Product
+    ensures { λ r. ⌜ r ≡ productOf c thread m ⌝ }
+{
+    let height = m.height;
+    Product {
+        format: c.settings.format,
+        phase: rows::phase_of(c, thread),
+        a: rows::bank_row(c.a.matrix, rows::row_a(c, thread)),
+        b: rows::bank_row(c.b.matrix, rows::row_b(c, thread)),
+        dst: rows::row_dst(c, thread, m),
+        rows: rows::rows_of(height),
+    }
+}
 
 fn multiply(c: Control, thread: u8, m: Multiply, srca: &[u32], srcb: &[u32], dst: &mut [u32])
     requires { ⌜ (inRange c ≡ true) × (thread < 3) × (rowDst c thread m < 512)
         × (length (now srca) ≡ 2048) × (length (now srcb) ≡ 2048) × (length (now dst) ≡ 8192) ⌝ }
     ensures { λ _. ⌜ now (dst .exit) ≡ multiplied (productOf c thread m) (now (srca .entry)) (now (srcb .entry)) (now (dst .entry)) ⌝ }
 {
-    product::multiply(rows::product_of(c, thread, m), srca, srcb, dst);
+    product::multiply(product_of(c, thread, m), srca, srcb, dst);
 }
 
 fn fill_a(z: ZeroSrc) -> u32
@@ -172,9 +186,9 @@ fn operand_b(thread: u8, s: Scalar, registers: &[u32]) -> u32
     ensures { λ r. ⌜ r ≡ operandB thread s (now (registers .entry)) ⌝ }
 {
     if s.constant {
-        return s.b;
+        return s.b as u32;
     }
-    let i = access::register_at(thread, s.b) as usize;
+    let i = rows::register_at(thread, s.b) as usize;
     registers[i]
 }
 
@@ -183,10 +197,10 @@ fn scalar_unit(thread: u8, s: Scalar, registers: &mut [u32])
     ensures { λ _. ⌜ now (registers .exit) ≡ scalar thread s (now (registers .entry)) ⌝ }
 {
     let y = operand_b(thread, s, registers);
-    let i = access::register_at(thread, s.a) as usize;
+    let i = rows::register_at(thread, s.a) as usize;
     let x = registers[i];
     let op = s.op;
-    let k = access::register_at(thread, s.result) as usize;
+    let k = rows::register_at(thread, s.result) as usize;
     registers[k] = compute(op, s.mode, x, y);
 }
 

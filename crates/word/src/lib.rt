@@ -272,9 +272,9 @@ pub struct Scalar {
     pub op: Operation,
     pub constant: bool,
     pub mode: u32,
-    pub result: u32,
-    pub b: u32,
-    pub a: u32,
+    pub result: u8,
+    pub b: u8,
+    pub a: u8,
 }
 
 // An instruction's fields, by its class.
@@ -330,9 +330,9 @@ fn scalar_of(op: Operation, w: u32) -> Fields
         op,
         constant: (w >> 23) % 2 == 1,
         mode: (w >> 18) % 8,
-        result: (w >> 12) % 64,
-        b: (w >> 6) % 64,
-        a: w % 64,
+        result: ((w >> 12) % 64) as u8,
+        b: ((w >> 6) % 64) as u8,
+        a: (w % 64) as u8,
     })
 }
 

@@ -1,0 +1,68 @@
+-- The four lengths, and that a multiply which is not refused fits. Assumes nothing.
+use mathlib.Core.Path.{_≡_}
+use mathlib.Core.Bool.{true}
+use mathlib.Core.List.{[], _∷_}
+use Prim.Native.Nat.{ℕ, _+_, _*_, _<_}
+use native.Mathlib.Omega.{arith}
+use lib.Dec.{leb}
+use lib.ListN.{length}
+use borrow.Author.Tests.{le-leb, eqb-true, eq-eqb}
+use Rattle.cells.proofs.Tests.{each-of, all-of}
+use Rattle.word.specs.declared.Multiply.{Multiply}
+use Rattle.control.specs.declared.Control.{Control}
+use Rattle.control.specs.Range.{inRange}
+use Rattle.control.proofs.Kept.{shared-bounds}
+use Rattle.product.specs.Product.{fits}
+use Rattle.rules.specs.Rows.{bankRow, rowsOf, rowA, rowB, rowDst}
+use Rattle.rules.proofs.Places.{row-a-inside, row-b-inside, row-dst-inside, rows-few}
+use Rattle.step.specs.State.{State, sizeTests, sized}
+use Rattle.step.specs.Effect.{productOf}
+
+-- so a multiply that is not refused fits
+pub product-fits : (c : Control) (t : ℕ) (m : Multiply) → inRange c ≡ true → rowDst c t m < 512 → fits (productOf c t m) 2048 2048 8192 ≡ true
+unfolding fits productOf
+product-fits c t m h lt =
+    let b = shared-bounds c h in
+    let ra = row-a-inside c t in
+    let rb = row-b-inside c t in
+    let rd = row-dst-inside c t m lt in
+    all-of
+    (leb (rowsOf (m .height)) 8 ∷
+    leb ((bankRow (c .a .matrix) (rowA c t) + 16) * 16) 2048 ∷
+    leb ((bankRow (c .b .matrix) (rowB c t) + 8) * 16) 2048 ∷
+    leb ((rowDst c t m + rowsOf (m .height)) * 16) 8192 ∷
+    []) (
+      le-leb (rowsOf (m .height)) 8 (rows-few (m .height)),
+      (
+        le-leb ((bankRow (c .a .matrix) (rowA c t) + 16) * 16) 2048 (omega arith),
+        (
+          le-leb ((bankRow (c .b .matrix) (rowB c t) + 8) * 16) 2048 (omega arith),
+          (le-leb ((rowDst c t m + rowsOf (m .height)) * 16) 8192 (omega arith), tt),
+        ),
+      ),
+    )
+
+-- ---- the four lengths
+
+pub record Sizes (s : State) : Type 0 where
+  pub srca : length (s .srca) ≡ 2048
+  pub srcb : length (s .srcb) ≡ 2048
+  pub dst : length (s .dst) ≡ 8192
+  pub registers : length (s .registers) ≡ 192
+
+pub sizes : (s : State) → sized s ≡ true → Sizes s
+unfolding sized
+sizes s h =
+    let e = each-of (sizeTests s) h in
+    record {
+      srca = eqb-true (length (s .srca)) 2048 (e .0);
+      srcb = eqb-true (length (s .srcb)) 2048 (e .1 .0);
+      dst = eqb-true (length (s .dst)) 8192 (e .1 .1 .0);
+      registers = eqb-true (length (s .registers)) 192 (e .1 .1 .1 .0);
+    }
+
+pub sized-of : (s : State) → Sizes s → sized s ≡ true
+unfolding sized
+sized-of s h =
+    all-of (sizeTests s)
+    (eq-eqb (length (s .srca)) 2048 (h .srca), (eq-eqb (length (s .srcb)) 2048 (h .srcb), (eq-eqb (length (s .dst)) 8192 (h .dst), (eq-eqb (length (s .registers)) 192 (h .registers), tt))))

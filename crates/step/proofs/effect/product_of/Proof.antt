@@ -1,0 +1,43 @@
+-- `step::effect::product_of` meets its contract. Assumes nothing.
+use Rattle.step.specs.Effect.{productOf}
+use borrow.Author.Needs.{needs}
+use Rattle.step.proofs.effect.product_of.Statement.{statement}
+use Rattle.step.proofs.effect.product_of.Tie as tie
+
+phase-of-requires : tie.Need-phase-of-requires
+phase-of-requires c κs = search needs
+
+row-a-requires : tie.Need-row-a-requires
+row-a-requires c κs = search needs
+
+bank-row-requires : tie.Need-bank-row-requires
+bank-row-requires c κs = search needs
+
+row-b-requires : tie.Need-row-b-requires
+row-b-requires c κs = search needs
+
+bank-row-requires-2 : tie.Need-bank-row-requires-2
+bank-row-requires-2 c κs = search needs
+
+row-dst-requires : tie.Need-row-dst-requires
+row-dst-requires c κs = search needs
+
+rows-of-requires : tie.Need-rows-of-requires
+rows-of-requires c κs = search needs
+
+returns : tie.Need-returns
+unfolding productOf
+returns c = simp ((c .rows-of .ensures), (c .before .row-dst .ensures), (c .before .before .bank-row2 .ensures), (c .before .before .before .row-b .ensures), (c .before .before .before .before .bank-row .ensures), (c .before .before .before .before .before .row-a .ensures), (c .before .before .before .before .before .before .phase-of .ensures))
+
+pub product-of-spec : {M : Type 1} → statement M
+product-of-spec =
+    tie.close
+    (tie.spec
+    phase-of-requires
+    row-a-requires
+    bank-row-requires
+    row-b-requires
+    bank-row-requires-2
+    row-dst-requires
+    rows-of-requires
+    returns)
