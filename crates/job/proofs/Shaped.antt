@@ -10,7 +10,7 @@ use lib.Dec.{leb, ltb, eqb}
 use lib.ListN.{length, getD}
 use Rattle.cells.proofs.Cells.{split}
 use Rattle.job.specs.Range.{InRange}
-use Rattle.job.specs.Fields.{endAt, payloadAt, fieldAt, fieldsFrom}
+use Rattle.job.specs.Fields.{endAt, payloadAt, fieldAt, fieldsFrom, EachField}
 use Rattle.job.specs.Shape.{classOf, stageAfter, shapeFrom, shapeOf}
 use Rattle.job.specs.declared.Kind.{Kind}
 use Rattle.job.specs.declared.Kind.the-variants.{Settings, LoadSrc, LoadDst, LoadRegister, HandOver, Issue, OutputRows, OutputRegister, ZeroRows, Wrong}
@@ -20,10 +20,6 @@ use Rattle.job.proofs.Walk.{grows, ends, place-at, fields-end, fields-s
 use Rattle.job.proofs.Says.{Says, field-says, field-in-range}
 
 -- ---- every field of a list
-
-abbrev pub EachField : (Field → Type 0) → List Field → Type 0
-EachField P [] = Unit {0}
-EachField P (f ∷ fs) = P f × EachField P fs
 
 pub each-both : {P Q R : Field → Type 0} → ((f : Field) → P f → Q f → R f) → (fs : List Field) → EachField P fs → EachField Q fs → EachField R fs
 each-both h [] p q = tt
