@@ -43,7 +43,7 @@ impl Counter6 {
     }
 }
 
-// A Src counter and its carry; a Dst counter and its carry.
+// A Src counter and its carry, the paper's _Cr number; a Dst counter and its carry.
 pub struct Src {
     pub at: Counter6,
     pub carry: Counter6,

@@ -62,7 +62,7 @@ pub fn verdict_of(read: Read) -> Verdict
     }
 }
 
-// Which of the rules 2 to 7 a word breaks first under a record; the bank and row rules as this thread meets them.
+// Which of the rules 2 to 7 a word breaks first under a record; the Dst row is that of this thread.
 pub fn judge(control: Control, thread: u8, word: u32) -> Verdict
     ensures { λ r. ⌜ r ≡ judgement control thread word ⌝ }
 {

@@ -1,0 +1,169 @@
+-- Demand 3 and demand 1, proved for every list of bytes. Assumes nothing.
+use mathlib.Core.Path.{_≡_, refl, sym, ap, _∙_}
+use mathlib.Core.Bool.{true, false, false≢true}
+use mathlib.Core.List.{List}
+use Prim.Native.Nat.{ℕ, zero, suc, _≤_}
+use native.Mathlib.Nat.{zero-add}
+use native.Mathlib.Omega.{arith}
+use lib.ListN.{length, getD, replicate}
+use Rattle.cells.proofs.Cells.{split}
+use Rattle.word.specs.Refusal.{numberOf}
+use Rattle.word.specs.declared.Refusal.{Refusal}
+use Rattle.word.specs.declared.Refusal.the-variants as refusal
+use Rattle.control.specs.Record.{start}
+use Rattle.control.proofs.Kept.{start-kept}
+use Rattle.step.specs.State.{State, sized}
+use Rattle.step.proofs.Sizes.{sizes}
+use Rattle.job.specs.Fields.{fieldsFrom}
+use Rattle.job.specs.Shape.{shapeOf}
+use Rattle.job.specs.Values.{beforeWrong}
+use Rattle.job.specs.declared.Shape.{Shape}
+use Rattle.job.specs.declared.Shape.the-variants.{Right, WrongAt}
+use Rattle.job.proofs.Shaped.{sound}
+use Rattle.precheck.specs.Marks.{unset}
+use Rattle.precheck.specs.Check.{unlessWrong, checkFrom, precheckOf}
+use Rattle.precheck.specs.declared.Checked.{Checked}
+use Rattle.precheck.specs.declared.Checked.the-variants as checked
+use Rattle.run.specs.Run.{Ran, ran, execute, runOf}
+use Rattle.run.specs.declared.Outcome.the-variants.{Finished, Refused}
+use Rattle.lines.specs.Lines.{linesOf}
+use Rattle.demand.specs.Breaks.{FirstBroken, issueFields}
+use Rattle.demand.specs.Demand.{Unbroken, Demand3, Demand1}
+use Rattle.demand.proofs.Agreement.{Same, Agree, byRow, alone}
+use Rattle.demand.proofs.Passed.{counted, Ended, ended}
+use Rattle.demand.proofs.Refused.{none-breaks, first-breaks}
+use Rattle.demand.proofs.Values.{values-same}
+
+-- ---- at the start all is unset, so any two states of the right sizes agree
+
+none-set : (n i : ℕ) → getD (replicate n false) i false ≡ false
+none-set zero i = refl
+none-set (suc n) zero = refl
+none-set (suc n) (suc i) = none-set n i
+
+unset-same : (row : ℕ → ℕ) (k n : ℕ) (d e : List ℕ) → length d ≡ n → length e ≡ n → Same row n (replicate k false) d e
+unset-same row k n d e p q = record { left = p; right = q; same = λ i t. absurd (false≢true (sym (none-set k (row i)) ∙ t)) }
+
+start-agrees : (d e : State) → sized d ≡ true → sized e ≡ true → Agree unset d e
+unfolding unset
+start-agrees d e p q =
+    let s = sizes d p in
+    let r = sizes e q in
+    record {
+      srca = unset-same byRow 128 2048 _ _ (s .srca) (r .srca);
+      srcb = unset-same byRow 128 2048 _ _ (s .srcb) (r .srcb);
+      dst = unset-same byRow 512 8192 _ _ (s .dst) (r .dst);
+      registers = unset-same alone 192 192 _ _ (s .registers) (r .registers);
+    }
+
+-- ---- the answer of the pre-check, and that of the run by it
+
+module _ (job : List ℕ) where
+  abbrev walked : Checked
+  walked = checkFrom job (fieldsFrom job 0) start unset 0
+
+  -- a job that passes: its shape is right, and the walk passes
+  passed : (n : ℕ) → precheckOf job ≡ checked.Passed n → (shapeOf job ≡ Right) × (walked ≡ checked.Passed n)
+  unfolding precheckOf
+  passed n e = go (shapeOf job) walked e
+    where
+      go : (w : Shape) (x : Checked) → unlessWrong w x ≡ checked.Passed n → (w ≡ Right) × (x ≡ checked.Passed n)
+      go Right x e = (refl, e)
+      go (WrongAt p) x e = absurd (let z : _≡_ {A = ℕ} 0 1 = cc in omega arith)
+
+  -- a shape that is right leaves it to the walk
+  by-walk : shapeOf job ≡ Right → precheckOf job ≡ walked
+  unfolding precheckOf
+  by-walk e = rw e
+
+  by-shape : (p : ℕ) → shapeOf job ≡ WrongAt p → precheckOf job ≡ checked.Refused refusal.Shape p
+  unfolding precheckOf
+  by-shape p e = rw e
+
+  run-passed : (n : ℕ) → precheckOf job ≡ checked.Passed n → (s : State) → sized s ≡ true → runOf job s ≡ execute job (fieldsFrom job 0) start s 0
+  unfolding runOf
+  run-passed n e s size = rw (size, e)
+
+  run-refused : (r : Refusal) (p : ℕ) → precheckOf job ≡ checked.Refused r p → (s : State) → sized s ≡ true → runOf job s ≡ ran (Refused r p) s
+  unfolding runOf
+  run-refused r p e s size = rw (size, e)
+
+  run-unsized : (s : State) → sized s ≡ false → runOf job s ≡ ran (Refused refusal.StateLength 0) s
+  unfolding runOf
+  run-unsized s size = rw size
+
+  -- a job that passes, over two states
+  both-end : (n : ℕ) → precheckOf job ≡ checked.Passed n → (s t : State) → sized s ≡ true → sized t ≡ true
+      → Ended (fieldsFrom job 0) unset 0 (runOf job s) (runOf job t)
+  both-end n e s t p q =
+      rw (run-passed n e s p, run-passed n e t q)
+      (ended job (fieldsFrom job 0) start unset s t 0 n (sound job 0) start-kept (passed n e .1) (start-agrees s t p q))
+
+  found : shapeOf job ≡ Right → (r : Refusal) (p : ℕ) → precheckOf job ≡ checked.Refused r p → FirstBroken job start unset (fieldsFrom job 0) (numberOf r) p
+  found w r p e = first-breaks job (fieldsFrom job 0) start unset 0 r p (sym (by-walk w) ∙ e) .0
+
+  passes : shapeOf job ≡ Right → Unbroken job → precheckOf job ≡ checked.Passed (issueFields (fieldsFrom job 0))
+  passes w h = go (precheckOf job) refl
+    where
+      go : (x : Checked) → precheckOf job ≡ x → x ≡ checked.Passed (issueFields (fieldsFrom job 0))
+      go (checked.Passed n) e = ap checked.Passed (counted job (fieldsFrom job 0) start unset 0 n (passed n e .1) ∙ zero-add _)
+      go (checked.Refused r p) e = let b = found w r p e in absurd (false≢true (sym (h (b .index) (numberOf r)) ∙ b .breaking))
+
+  finishes : (n : ℕ) → precheckOf job ≡ checked.Passed n → (s : State) → sized s ≡ true → runOf job s .outcome ≡ Finished (issueFields (fieldsFrom job 0))
+  finishes n e s p = both-end n e s s p p .finished ∙ ap Finished (zero-add _)
+
+  prints : (n : ℕ) → precheckOf job ≡ checked.Passed n → (s t : State) → sized s ≡ true → sized t ≡ true → linesOf job (runOf job s .state) ≡ linesOf job (runOf job t .state)
+  unfolding linesOf
+  prints n e s t p q = both-end n e s t p q .lines
+
+  -- a job that the pre-check turns down gets one of 1 to 8
+  tabled : (r : Refusal) (p : ℕ) → precheckOf job ≡ checked.Refused r p → numberOf r ≤ 8
+  tabled r p e = go (shapeOf job) refl
+    where
+      go : (w : Shape) → shapeOf job ≡ w → numberOf r ≤ 8
+      go Right w = omega (arith, first-breaks job (fieldsFrom job 0) start unset 0 r p (sym (by-walk w) ∙ e) .1)
+      go (WrongAt q) w =
+          let x = sym (by-shape q w) ∙ e in
+          let y : refusal.Shape ≡ r = cc in
+          omega (arith, ap numberOf y)
+
+  pub demand3 : Demand3 job
+  demand3 =
+      record {
+        right = λ n e. passed n e .0;
+        unbroken = λ n e. none-breaks job (fieldsFrom job 0) start unset 0 n (passed n e .1);
+        passes = passes;
+        finishes = finishes;
+        prints = prints;
+        misshapen = by-shape;
+        found = found;
+        named = tabled;
+        refuses = run-refused;
+        values = λ other o. values-same job other (beforeWrong (shapeOf job)) o;
+      }
+
+  -- ---- demand 1
+
+  module _ (s : State) where
+    -- what a run answers and leaves, where both are known
+    told : (a : Refusal) (b : ℕ) → runOf job s ≡ ran (Refused a b) s → numberOf a ≤ 9 → (r : Refusal) (p : ℕ) → runOf job s .outcome ≡ Refused r p
+        → (runOf job s .state ≡ s) × (numberOf r ≤ 9)
+    told a b q l r p o =
+        let y : Refused a b ≡ Refused r p = sym (ap (λ (z : Ran). z .outcome) q) ∙ o in
+        let k : a ≡ r = cc in
+        (ap (λ (z : Ran). z .state) q, rw (← k) l)
+
+    -- a run refuses by the state's lengths, or as the pre-check does; else it finishes
+    refused : (r : Refusal) (p : ℕ) → runOf job s .outcome ≡ Refused r p → (runOf job s .state ≡ s) × (numberOf r ≤ 9)
+    refused r p o =
+        split (sized s) (λ size. go size (precheckOf job) refl)
+        (λ size. told refusal.StateLength 0 (run-unsized s size) (omega arith) r p o)
+      where
+        go : sized s ≡ true → (v : Checked) → precheckOf job ≡ v → (runOf job s .state ≡ s) × (numberOf r ≤ 9)
+        go size (checked.Passed n) w =
+            let y : Finished (issueFields (fieldsFrom job 0)) ≡ Refused r p = sym (finishes n w s size) ∙ o in
+            absurd (let z : _≡_ {A = ℕ} 0 1 = cc in omega arith)
+        go size (checked.Refused a b) w = told a b (run-refused a b w s size) (omega (arith, tabled a b w)) r p o
+
+    pub demand1 : Demand1 job s
+    demand1 = record { unsized = run-unsized s; kept = λ r p o. refused r p o .0; tabled = λ r p o. refused r p o .1 }

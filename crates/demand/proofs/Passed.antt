@@ -1,0 +1,103 @@
+-- A walk of the pre-check that passes: its count, and what the job run then does over two states that agree. Assumes nothing.
+use mathlib.Core.Path.{_≡_, refl, ap, ap₂, _∙_}
+use mathlib.Core.Bool.{true, cond}
+use mathlib.Core.List.{List, [], _∷_, _++_}
+use Prim.Native.Nat.{ℕ, suc, _+_}
+use native.Mathlib.Omega.{arith}
+use Rattle.control.specs.declared.Control.{Control}
+use Rattle.control.specs.Range.{inRange}
+use Rattle.rules.specs.Rules.{lowest}
+use Rattle.rules.specs.declared.Verdict.{Verdict}
+use Rattle.rules.specs.declared.Verdict.the-variants as verdict
+use Rattle.step.specs.State.{State}
+use Rattle.job.specs.Fields.{EachField}
+use Rattle.job.specs.declared.Kind.{Kind}
+use Rattle.job.specs.declared.Kind.the-variants as kind
+use Rattle.job.specs.declared.Field.{Field}
+use Rattle.job.proofs.Shaped.{Sound}
+use Rattle.precheck.specs.declared.Marks.{Marks}
+use Rattle.precheck.specs.declared.Checked.{Checked}
+use Rattle.precheck.specs.declared.Checked.the-variants.{Passed}
+use Rattle.precheck.specs.Fields.{fieldRules, fieldControl, fieldMarks}
+use Rattle.precheck.specs.Check.{issueOf, unlessBroken, checkFrom}
+use Rattle.run.specs.Perform.{performed, stepVerdict}
+use Rattle.run.specs.Run.{Ran, execute}
+use Rattle.run.specs.declared.Outcome.the-variants as outcome
+use Rattle.lines.specs.Lines.{linesFrom}
+use Rattle.demand.specs.Breaks.{isIssue, issueFields}
+use Rattle.demand.proofs.Kept.{Stays, stays, stays-on, marks-stay}
+use Rattle.precheck.proofs.Kept.{control-kept}
+use Rattle.demand.proofs.Agreement.{Agree, swap}
+use Rattle.demand.proofs.Fields.{field-done, field-agrees}
+use Rattle.demand.proofs.Lines.{lines-same}
+
+-- ---- a turn of the walk
+
+passed-on : (v : Verdict) (p q : ℕ) (x : Checked) → unlessBroken v p x ≡ Passed q → (v ≡ verdict.Done) × (x ≡ Passed q)
+passed-on verdict.Done p q x e = (refl, e)
+passed-on (verdict.Refused r) p q x e = absurd (let z : _≡_ {A = ℕ} 0 1 = cc in omega arith)
+
+-- the first field breaks no rule, and the walk after it passes
+pub walk-on : (job : List ℕ) (f : Field) (fs : List Field) (c : Control) (m : Marks) (n q : ℕ) → checkFrom job (f ∷ fs) c m n ≡ Passed q
+    → (lowest (fieldRules c m (f .kind)) ≡ verdict.Done)
+    × (checkFrom job fs (fieldControl job c (f .place) (f .kind)) (fieldMarks c m (f .kind)) (n + issueOf (f .kind)) ≡ Passed q)
+unfolding checkFrom
+walk-on job f fs c m n q e = passed-on (lowest (fieldRules c m (f .kind))) (f .place) q _ e
+
+-- ---- the count
+
+count-one : (k : Kind) (n x : ℕ) → n + issueOf k + x ≡ n + cond (isIssue k) (suc x) x
+count-one kind.Settings n x = omega arith
+count-one (kind.LoadSrc file rows) n x = omega arith
+count-one (kind.LoadDst rows) n x = omega arith
+count-one (kind.LoadRegister t r) n x = omega arith
+count-one (kind.HandOver file) n x = omega arith
+count-one (kind.Issue t w) n x = omega arith
+count-one (kind.OutputRows rows) n x = omega arith
+count-one (kind.OutputRegister t r) n x = omega arith
+count-one (kind.ZeroRows rows) n x = omega arith
+count-one kind.Wrong n x = omega arith
+
+pub counted : (job : List ℕ) (fs : List Field) (c : Control) (m : Marks) (n q : ℕ) → checkFrom job fs c m n ≡ Passed q → q ≡ n + issueFields fs
+unfolding checkFrom issueFields
+counted job [] c m n q e = let r : n ≡ q = cc in omega arith
+counted job (f ∷ fs) c m n q e =
+    counted job fs (fieldControl job c (f .place) (f .kind)) (fieldMarks c m (f .kind)) (n + issueOf (f .kind)) q (walk-on job f fs c m n q e .1)
+    ∙ count-one (f .kind) n (issueFields fs)
+
+-- ---- the run
+
+-- a run of fs over one state beside a run over another: it finishes with the count, and both print the same
+pub record Ended (fs : List Field) (m : Marks) (n : ℕ) (x y : Ran) : Type 0 where
+  pub finished : x .outcome ≡ outcome.Finished (n + issueFields fs)
+  pub lines : linesFrom fs (x .state) ≡ linesFrom fs (y .state)
+  pub marks : Marks
+  pub stay : Stays m marks
+  pub agree : Agree marks (x .state) (y .state)
+
+module _ (job : List ℕ) where
+  -- what the run of the first field leaves
+  run-on : (f : Field) (fs : List Field) (c : Control) (s : State) (n : ℕ) → stepVerdict c (f .kind) s ≡ verdict.Done
+      → execute job (f ∷ fs) c s n ≡ execute job fs (fieldControl job c (f .place) (f .kind)) (performed job c (f .place) (f .kind) s) (n + issueOf (f .kind))
+  unfolding execute
+  run-on f fs c s n e = rw e
+
+  pub ended : (fs : List Field) (c : Control) (m : Marks) (d e : State) (n q : ℕ) → EachField (Sound job) fs → inRange c ≡ true
+      → checkFrom job fs c m n ≡ Passed q → Agree m d e → Ended fs m n (execute job fs c d n) (execute job fs c e n)
+  unfolding execute issueFields linesFrom
+  ended [] c m d e n q w r h s = record { finished = ap outcome.Finished (omega arith); lines = refl; marks = m; stay = stays m; agree = s }
+  ended (f ∷ fs) c m d e n q w r h s =
+      let k = f .kind in
+      let v = walk-on job f fs c m n q h in
+      let i =
+      ended fs (fieldControl job c (f .place) k) (fieldMarks c m k) (performed job c (f .place) k d) (performed job c (f .place) k e) (n + issueOf k) q (w .1)
+      (control-kept job c f r (w .0)) (v .1) (field-agrees c m r d e s job (f .place) k (w .0 .range) (v .0)) in
+      let st = stays-on m (fieldMarks c m k) (i .marks) (marks-stay c m k) (i .stay) in
+      rw (run-on f fs c d n (field-done c m r d e s k (w .0 .range) (v .0)), run-on f fs c e n (field-done c m r e d (swap m d e s) k (w .0 .range) (v .0)))
+      (record {
+        finished = i .finished ∙ ap outcome.Finished (count-one k n (issueFields fs));
+        lines = ap₂ _++_ (lines-same c m (i .marks) k _ _ (v .0) st (i .agree)) (i .lines);
+        marks = i .marks;
+        stay = st;
+        agree = i .agree;
+      })

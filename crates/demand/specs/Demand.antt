@@ -1,0 +1,66 @@
+-- Demand 3 in one piece, for every list of bytes, with no hypothesis on the job; and demand 1 for the pre-check, the job run and the single step.
+-- Definitions only.
+use mathlib.Core.Path.{_≡_}
+use mathlib.Core.Bool.{true, false}
+use mathlib.Core.List.{List}
+use mathlib.Core.Logic.{_⊎_}
+use Prim.Native.Nat.{ℕ, _≤_}
+use Rattle.word.specs.Refusal.{numberOf}
+use Rattle.word.specs.declared.Refusal.{Refusal}
+use Rattle.word.specs.declared.Refusal.the-variants.{Shape, StateLength}
+use Rattle.control.specs.declared.Control.{Control}
+use Rattle.control.specs.Record.{start}
+use Rattle.rules.specs.declared.Verdict.the-variants as verdict
+use Rattle.step.specs.State.{State, sized}
+use Rattle.step.specs.Step.{verdictOf, steppedOf, stateOf}
+use Rattle.job.specs.Fields.{fieldsFrom}
+use Rattle.job.specs.Shape.{shapeOf}
+use Rattle.job.specs.Values.{beforeWrong, OtherValues}
+use Rattle.job.specs.declared.Shape.the-variants.{Right, WrongAt}
+use Rattle.precheck.specs.Marks.{unset}
+use Rattle.precheck.specs.Check.{precheckOf}
+use Rattle.precheck.specs.declared.Checked.the-variants as checked
+use Rattle.run.specs.Run.{ran, runOf}
+use Rattle.lines.specs.Lines.{linesOf}
+use Rattle.run.specs.declared.Outcome.the-variants.{Finished, Refused}
+use Rattle.demand.specs.Breaks.{breaks, FirstBroken, issueFields}
+
+-- no field of the job breaks a rule
+abbrev pub Unbroken : List ℕ → Type 0
+Unbroken job = (k n : ℕ) → breaks job start unset (fieldsFrom job 0) k n ≡ false
+
+pub record Demand3 (job : List ℕ) : Type 0 where
+  -- a job passes exactly when its shape is right and no field breaks a rule
+  pub right : (n : ℕ) → precheckOf job ≡ checked.Passed n → shapeOf job ≡ Right
+  pub unbroken : (n : ℕ) → precheckOf job ≡ checked.Passed n → Unbroken job
+  pub passes : shapeOf job ≡ Right → Unbroken job → precheckOf job ≡ checked.Passed (issueFields (fieldsFrom job 0))
+  -- a job that passes, over any state of the right sizes, finishes with its number of issue fields: it is never refused
+  pub finishes : (n : ℕ) → precheckOf job ≡ checked.Passed n → (s : State) → sized s ≡ true
+      → runOf job s .outcome ≡ Finished (issueFields (fieldsFrom job 0))
+  -- and over any two states of the right sizes it prints the same lines
+  pub prints : (n : ℕ) → precheckOf job ≡ checked.Passed n → (s t : State) → sized s ≡ true → sized t ≡ true
+      → linesOf job (runOf job s .state) ≡ linesOf job (runOf job t .state)
+  -- a job turned down is named by its first wrong place with number 1, or by its first field that breaks a rule with its lowest number
+  pub misshapen : (p : ℕ) → shapeOf job ≡ WrongAt p → precheckOf job ≡ checked.Refused Shape p
+  pub found : shapeOf job ≡ Right → (r : Refusal) (p : ℕ) → precheckOf job ≡ checked.Refused r p
+      → FirstBroken job start unset (fieldsFrom job 0) (numberOf r) p
+  -- with one of the numbers 1 to 8
+  pub named : (r : Refusal) (p : ℕ) → precheckOf job ≡ checked.Refused r p → numberOf r ≤ 8
+  -- and a run over any state of the right sizes refuses it with the same number and place, and leaves the state
+  pub refuses : (r : Refusal) (p : ℕ) → precheckOf job ≡ checked.Refused r p → (s : State) → sized s ≡ true → runOf job s ≡ ran (Refused r p) s
+  -- other permitted values in the load fields (where the shape is wrong, in those before its first wrong place) leave the answer as it is
+  pub values : (other : List ℕ) → OtherValues (beforeWrong (shapeOf job)) job other → precheckOf other ≡ precheckOf job
+
+-- ---- demand 1: a refusal is a number of the table, and leaves every lent number as it stood
+
+-- the job run, over any state: 9 at place 0 first of all, and never 10
+pub record Demand1 (job : List ℕ) (s : State) : Type 0 where
+  pub unsized : sized s ≡ false → runOf job s ≡ ran (Refused StateLength 0) s
+  pub kept : (r : Refusal) (p : ℕ) → runOf job s .outcome ≡ Refused r p → runOf job s .state ≡ s
+  pub tabled : (r : Refusal) (p : ℕ) → runOf job s .outcome ≡ Refused r p → numberOf r ≤ 9
+
+-- the single step, over any record, thread, word and state: 1 to 7 or 9, and the record as it came
+pub record StepDemand1 (c : Control) (t w : ℕ) (s : State) : Type 0 where
+  pub kept : (r : Refusal) → verdictOf c t w s ≡ verdict.Refused r → stateOf c t w s ≡ s
+  pub record-kept : (r : Refusal) → verdictOf c t w s ≡ verdict.Refused r → steppedOf c t w s .control ≡ c
+  pub tabled : (r : Refusal) → verdictOf c t w s ≡ verdict.Refused r → (numberOf r ≤ 7) ⊎ (numberOf r ≡ 9)

@@ -1,0 +1,3 @@
+-- What the buyer signs for, as statements over the definitions that the contracts cite.
+pub mod Breaks
+pub mod Demand

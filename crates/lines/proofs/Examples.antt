@@ -1,0 +1,69 @@
+-- Document 01, "Numbers to check against": the two lines of the job program's example, the refused one, and a row, as texts. Assumes nothing.
+use mathlib.Core.Path.{_≡_, refl}
+use mathlib.Core.List.{List, [], _∷_, _++_}
+use Prim.Native.Nat.{ℕ, _+_}
+use lib.ListN.{replicate}
+use Rattle.step.specs.State.{state}
+use Rattle.lines.specs.Lines.{value, columns, fieldLines, linesFrom, linesOf}
+use Rattle.lines.specs.Text.{pushed, wrote, blank, made, decimalUpTo, decimal, hexDigit, hex, values, textOf, lineOf, finishedText, refusedText}
+use Rattle.job.specs.Fields.{fieldAt, fieldsUpTo, fieldsFrom}
+use Rattle.job.specs.Kinds.{settings, loadRegister, issue, outputRows, outputRegister, kindOf}
+use Rattle.job.specs.Settings.{slotOf, threadRight, settingsRight}
+use Rattle.job.proofs.Examples.{worked}
+use Rattle.lines.specs.Cursor.{startCursor, nextFrom, nextOf}
+use Rattle.lines.specs.declared.Cursor.{Cursor}
+use Rattle.lines.specs.declared.Found.the-variants as found
+use Rattle.lines.specs.declared.What.the-variants.{Row, Register}
+
+-- `finished 1`
+finished-1 : finishedText 1 ≡ 102 ∷ 105 ∷ 110 ∷ 105 ∷ 115 ∷ 104 ∷ 101 ∷ 100 ∷ 32 ∷ 49 ∷ 10 ∷ []
+unfolding finishedText decimal decimalUpTo
+finished-1 = refl
+
+-- `G 0 3 00000009`: register 3 of thread 0 is 9
+register-0-3 : textOf (lineOf (Register 0 3) [] (0 ∷ 12 ∷ 0 ∷ 9 ∷ []))
+    ≡ 71 ∷ 32 ∷ 48 ∷ 32 ∷ 51 ∷ 32 ∷ 48 ∷ 48 ∷ 48 ∷ 48 ∷ 48 ∷ 48 ∷ 48 ∷ 57 ∷ 10 ∷ []
+unfolding textOf lineOf decimal decimalUpTo values hex hexDigit
+register-0-3 = refl
+
+-- `refused 8 at 180`
+refused-8 : refusedText 8 180 ≡ 114 ∷ 101 ∷ 102 ∷ 117 ∷ 115 ∷ 101 ∷ 100 ∷ 32 ∷ 56 ∷ 32 ∷ 97 ∷ 116 ∷ 32 ∷ 49 ∷ 56 ∷ 48 ∷ 10 ∷ []
+unfolding refusedText decimal decimalUpTo
+refused-8 = refl
+
+-- ` 00000000`
+abbrev zeros : List ℕ
+zeros = 32 ∷ 48 ∷ 48 ∷ 48 ∷ 48 ∷ 48 ∷ 48 ∷ 48 ∷ 48 ∷ []
+
+-- `D 1 deadbeef 00000000 ..`, sixteen values: row 1 begins at place 16
+row-1 : textOf (lineOf (Row 1) (replicate 16 7 ++ 0xDEADBEEF ∷ []) [])
+    ≡ 68 ∷ 32 ∷ 49 ∷ 32 ∷ 100 ∷ 101 ∷ 97 ∷ 100 ∷ 98 ∷ 101 ∷ 101 ∷ 102
+    ∷ zeros ++ zeros ++ zeros ++ zeros ++ zeros ++ zeros ++ zeros ++ zeros ++ zeros ++ zeros ++ zeros ++ zeros ++ zeros ++ zeros ++ zeros ++ 10 ∷ []
+unfolding textOf lineOf columns decimal decimalUpTo values hex hexDigit
+row-1 = refl
+
+-- a text of bytes: the first ones are those that were written
+text-of-it : made (finishedText 1) .len ≡ 11
+unfolding finishedText decimal decimalUpTo blank wrote pushed
+text-of-it = refl
+
+-- output rows 7 and 8 at 0, output register 0/3 at 6: three lines, then the end
+abbrev outputs : List ℕ
+outputs = 6 ∷ 3 ∷ 0 ∷ 7 ∷ 0 ∷ 2 ∷ 7 ∷ 2 ∷ 0 ∷ 0 ∷ 3 ∷ []
+
+abbrev cursor : ℕ → ℕ → Cursor
+cursor at i = record { at = at; line = i }
+
+reads : (nextOf outputs startCursor ∷ nextOf outputs (cursor 0 1) ∷ nextOf outputs (cursor 0 2) ∷ nextOf outputs (cursor 6 1) ∷ [])
+    ≡ found.Line (Row 7) (cursor 0 1) ∷ found.Line (Row 8) (cursor 0 2) ∷ found.Line (Register 0 3) (cursor 6 1) ∷ found.End ∷ []
+unfolding nextOf nextFrom fieldsFrom fieldsUpTo fieldAt kindOf outputRows outputRegister
+reads = refl
+
+-- the paper's job has one line, at 180
+worked-line : nextOf worked startCursor ≡ found.Line (Register 0 3) (cursor 180 1)
+unfolding worked nextOf nextFrom fieldsFrom fieldsUpTo fieldAt kindOf settings settingsRight threadRight slotOf loadRegister issue outputRegister
+worked-line = refl
+
+worked-lines : linesOf worked (state [] [] [] (0 ∷ 12 ∷ 0 ∷ 9 ∷ [])) ≡ value 0 3 9 ∷ []
+unfolding worked linesOf linesFrom fieldLines fieldsFrom fieldsUpTo fieldAt kindOf settings settingsRight threadRight slotOf loadRegister issue outputRegister
+worked-lines = refl

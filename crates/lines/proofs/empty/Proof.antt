@@ -1,0 +1,12 @@
+-- `lines::empty` meets its contract. Assumes nothing.
+use mathlib.Core.Path.{refl}
+use Rattle.lines.specs.Text.{blank}
+use Rattle.lines.proofs.empty.Statement.{statement}
+use Rattle.lines.proofs.empty.Tie as tie
+
+returns : tie.Need-returns
+unfolding blank
+returns c = refl
+
+pub empty-spec : {M : Type 1} → statement M
+empty-spec = tie.close (tie.spec returns)

@@ -1,0 +1,4 @@
+-- The definitions that the contracts of `lines` cite.
+pub mod Lines
+pub mod Text
+pub mod Cursor

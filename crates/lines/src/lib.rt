@@ -1,0 +1,170 @@
+// The printed lines of a finished job: which they are, one at a time, and each as text. A program only loops and writes.
+mod write;
+
+use job::Kind;
+use write::number_at;
+use write::push;
+use write::push_decimal;
+use write::push_row;
+use write::push_value;
+use write::push_word;
+ghost use mathlib.Core.Path.{_≡_};
+ghost use Prim.Native.Nat.{ℕ, _+_, _<_};
+ghost use Rattle.job.specs.Range.{InRange};
+ghost use Rattle.lines.specs.Text.{blank, made, Holds, textOf, lineOf, finishedText, refusedText, passedText};
+ghost use Rattle.lines.specs.Cursor.{startCursor, lineCount, whatAt, nextOf};
+
+// The first `len` bytes count.
+pub struct Text {
+    pub bytes: [u8; 160],
+    pub len: usize,
+}
+
+// A field's place, and how many of the lines from there on were read.
+pub struct Cursor {
+    pub at: usize,
+    pub line: u32,
+}
+
+// What a line shows: a row of Dst, or a register.
+pub enum What {
+    Row { row: u32 },
+    Register { thread: u8, register: u8 },
+}
+
+pub enum Found {
+    Line { what: What, after: Cursor },
+    End,
+}
+
+// ---- which lines
+
+pub fn start() -> Cursor
+    ensures { λ r. ⌜ r ≡ startCursor ⌝ }
+{
+    Cursor { at: 0, line: 0 }
+}
+
+fn line_count(kind: Kind) -> u32
+    ensures { λ r. ⌜ r ≡ lineCount kind ⌝ }
+{
+    match kind {
+        Kind::Settings => 0,
+        Kind::LoadSrc { file: _, rows: _ } => 0,
+        Kind::LoadDst { rows: _ } => 0,
+        Kind::LoadRegister {
+            thread: _,
+            register: _,
+        } => 0,
+        Kind::HandOver { file: _ } => 0,
+        Kind::Issue { thread: _, word: _ } => 0,
+        Kind::OutputRows { rows } => rows.count,
+        Kind::OutputRegister {
+            thread: _,
+            register: _,
+        } => 1,
+        Kind::ZeroRows { rows: _ } => 0,
+        Kind::Wrong => 0,
+    }
+}
+
+// A field that prints no line is never asked.
+fn what_at(kind: Kind, line: u32) -> What
+    requires { ⌜ InRange kind × (line < lineCount kind) ⌝ }
+    ensures { λ r. ⌜ r ≡ whatAt kind line ⌝ }
+{
+    match kind {
+        Kind::Settings => What::Row { row: 0 },
+        Kind::LoadSrc { file: _, rows: _ } => What::Row { row: 0 },
+        Kind::LoadDst { rows: _ } => What::Row { row: 0 },
+        Kind::LoadRegister {
+            thread: _,
+            register: _,
+        } => What::Row { row: 0 },
+        Kind::HandOver { file: _ } => What::Row { row: 0 },
+        Kind::Issue { thread: _, word: _ } => What::Row { row: 0 },
+        Kind::OutputRows { rows } => What::Row {
+            row: rows.first + line,
+        },
+        Kind::OutputRegister { thread, register } => What::Register { thread, register },
+        Kind::ZeroRows { rows: _ } => What::Row { row: 0 },
+        Kind::Wrong => What::Row { row: 0 },
+    }
+}
+
+// The next line and the cursor after it.
+pub fn next(job: &[u8], from: Cursor) -> Found
+    ensures { λ r. ⌜ r ≡ nextOf (now (job .entry)) from ⌝ }
+{
+    let n = job.len();
+    let mut at = from.at;
+    let mut line = from.line;
+    while at < n {
+        let f = job::field_at(job, at);
+        let kind = f.kind;
+        let count = line_count(kind);
+        if line < count {
+            let what = what_at(kind, line);
+            let after = Cursor {
+                at: f.place,
+                line: line + 1,
+            };
+            return Found::Line { what, after };
+        }
+        line -= count;
+        at = f.next;
+    }
+    Found::End
+}
+
+// ---- texts
+
+fn empty() -> Text
+    ensures { λ r. ⌜ r ≡ blank ⌝ }
+{
+    Text {
+        bytes: [0; 160],
+        len: 0,
+    }
+}
+
+// `D 7 00000000 ..` or `G 0 3 00000009`, from the final state.
+pub fn line_text(what: What, dst: &[u32], registers: &[u32]) -> Text
+    ensures whole { λ r. ⌜ r ≡ made (textOf (lineOf what (now (dst .entry)) (now (registers .entry)))) ⌝ }
+    ensures first { λ r. ⌜ Holds r (textOf (lineOf what (now (dst .entry)) (now (registers .entry)))) ⌝ }
+{
+    match what {
+        What::Row { row } => {
+            let t = push_decimal(push_word(empty(), b"D "), row as usize);
+            push(push_row(t, dst, row), 10)
+        }
+        What::Register { thread, register } => {
+            let t = push_decimal(push_word(empty(), b"G "), thread as usize);
+            let u = push_decimal(push(t, 32), register as usize);
+            let v = number_at(registers, thread as usize * 64 + register as usize);
+            push(push_value(u, v), 10)
+        }
+    }
+}
+
+pub fn finished_text(count: usize) -> Text
+    ensures whole { λ r. ⌜ r ≡ made (finishedText count) ⌝ }
+    ensures first { λ r. ⌜ Holds r (finishedText count) ⌝ }
+{
+    push(push_decimal(push_word(empty(), b"finished "), count), 10)
+}
+
+pub fn refused_text(number: u8, place: usize) -> Text
+    ensures whole { λ r. ⌜ r ≡ made (refusedText number place) ⌝ }
+    ensures first { λ r. ⌜ Holds r (refusedText number place) ⌝ }
+{
+    let t = push_decimal(push_word(empty(), b"refused "), number as usize);
+    push(push_decimal(push_word(t, b" at "), place), 10)
+}
+
+pub fn passed_text(count: usize) -> Text
+    ensures whole { λ r. ⌜ r ≡ made (passedText count) ⌝ }
+    ensures first { λ r. ⌜ Holds r (passedText count) ⌝ }
+{
+    push(push_decimal(push_word(empty(), b"passed "), count), 10)
+}
