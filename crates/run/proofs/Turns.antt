@@ -19,6 +19,7 @@ use Rattle.job.specs.declared.Field.{Field}
 use Rattle.job.proofs.Walk.{grows, ends, fields-end, fields-step}
 use Rattle.precheck.specs.Fields.{fieldControl, controlAfterField}
 use Rattle.precheck.proofs.Kept.{control-read}
+use Rattle.precheck.proofs.Walk.{issue-most}
 use Rattle.job.proofs.Shaped.{Sound, sound-at}
 use Rattle.precheck.specs.Check.{issueOf, precheckOf}
 use Rattle.precheck.specs.declared.Checked.the-variants as checked
@@ -110,10 +111,11 @@ module _ (job : List ℕ) (s₀ : State) (c : Control) (at n : ℕ) (s : State) 
     kept : Sizes s′
     kept = sizes s′ (ap sized q ∙ performed-sized job c (f .place) (f .kind) s (sized-of s (t .size)))
 
-    pub turn-on : v ≡ verdict.Done → (c′ : Control) → c′ ≡ controlAfterField job c (f .place) (f .kind) → (i : ℕ) → i ≡ issueOf (f .kind) → i ≤ 1 → Turn job s₀ c′ (f .next) (n + i) s′
-    turn-on d c′ ce i ie few =
+    pub turn-on : v ≡ verdict.Done → (c′ : Control) → c′ ≡ controlAfterField job c (f .place) (f .kind) → (i : ℕ) → i ≡ issueOf (f .kind) → Turn job s₀ c′ (f .next) (n + i) s′
+    turn-on d c′ ce i ie =
         let g = next-after job at f h e in
         let m = t .few in
+        let most = issue-most (f .kind) in
         let cr : c′ ≡ fieldControl job c (f .place) (f .kind) = ce ∙ control-read job c f (rw e (sound-at job at h)) in
         record {
           acted = (λ j. execute job (fieldsFrom job (f .next)) (cr j) (q j) (n + ie j)) ∙ sym (execute-on job at c s n f v h e p d) ∙ t .acted;

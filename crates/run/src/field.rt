@@ -6,13 +6,12 @@ use job::Kind;
 use rules::Verdict;
 ghost use mathlib.Core.Path.{_≡_};
 ghost use mathlib.Core.List.{List};
-ghost use Prim.Native.Nat.{ℕ, _≤_};
+ghost use Prim.Native.Nat.{ℕ};
 ghost use Rattle.cells.specs.Cells.{over, within};
 ghost use Rattle.rules.specs.Rows.{bankRow, register, span};
 ghost use Rattle.step.specs.State.{state};
 ghost use Rattle.job.specs.Values.{registerValue};
 ghost use Rattle.precheck.specs.Fields.{loadedRows};
-ghost use Rattle.precheck.specs.Check.{issueOf};
 ghost use Rattle.run.specs.Perform.{loaded, withSrc, srcOf, performed, stepVerdict};
 
 // The rows of a bank get the numbers of the load rows field at `place`; places past the end are passed over.
@@ -100,28 +99,4 @@ pub fn perform(
         Kind::Wrong => {}
     }
     Verdict::Done
-}
-
-// 1 for an issue field.
-pub fn issues_of(kind: Kind) -> usize
-    ensures { λ r. ⌜ (r ≡ issueOf kind) × (r ≤ 1) ⌝ }
-{
-    match kind {
-        Kind::Settings => 0,
-        Kind::LoadSrc { file: _, rows: _ } => 0,
-        Kind::LoadDst { rows: _ } => 0,
-        Kind::LoadRegister {
-            thread: _,
-            register: _,
-        } => 0,
-        Kind::HandOver { file: _ } => 0,
-        Kind::Issue { thread: _, word: _ } => 1,
-        Kind::OutputRows { rows: _ } => 0,
-        Kind::OutputRegister {
-            thread: _,
-            register: _,
-        } => 0,
-        Kind::ZeroRows { rows: _ } => 0,
-        Kind::Wrong => 0,
-    }
 }

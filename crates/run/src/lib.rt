@@ -54,7 +54,7 @@ pub fn run(
             return Outcome::Refused(Refusal::StepRefused, f.place);
         };
         c = precheck::field_control(job, c, f.place, kind);
-        count += field::issues_of(kind);
+        count += precheck::issue_of(kind);
         at = f.next;
     }
     Outcome::Finished(count)

@@ -1,4 +1,5 @@
 -- `run::run` meets its contract. Assumes nothing.
+use Rattle.precheck.proofs.Walk.{issue-most}
 use Rattle.run.proofs.Turns.{Turn, next-after, by-length, by-precheck, turn-first, turn-on, turn-stop, turn-end, answered}
 use Rattle.step.proofs.Sizes.{Sizes}
 use Rattle.step.specs.State.{state}
@@ -83,17 +84,17 @@ returns-6 c = let a = (c .before .before .before .before .before .before .before
 field-control-requires : tie.Need-field-control-requires Inv-loop μ-loop
 field-control-requires c κs = search needs
 
-issues-of-requires : tie.Need-issues-of-requires Inv-loop μ-loop
-issues-of-requires c κs = search needs
+issue-of-requires : tie.Need-issue-of-requires Inv-loop μ-loop
+issue-of-requires c κs = search needs
 
 add-count : tie.Need-add-count Inv-loop μ-loop
-add-count c = omega (arith, (c .before .before .before .before .before .before .before .before .before .before .before .before .before .before .before .before .before .before .before .loop .inv .few), (c .before .before .before .before .before .before .before .before .before .before .before .before .before .before .before .before .before .before .loop-test .taken), (c .issues-of .ensures .1), (c .before .before .before .before .before .before .before .before .before .before .before .before .before .before .before .before .before .before .before .before .before .before .before .before .before .before .before .before .before .before .before .before .before .good .0))
+add-count c = omega (arith, (c .before .before .before .before .before .before .before .before .before .before .before .before .before .before .before .before .before .before .before .loop .inv .few), (c .before .before .before .before .before .before .before .before .before .before .before .before .before .before .before .before .before .before .loop-test .taken), c .issue-of .ensures, issue-most (c .before .before .before .before .before .before .before .before .before .before .before .before .before .before .before .before .before .field-at .result .kind), (c .before .before .before .before .before .before .before .before .before .before .before .before .before .before .before .before .before .before .before .before .before .before .before .before .before .before .before .before .before .before .before .before .before .good .0))
 
 loop-less : tie.Need-loop-less Inv-loop μ-loop
 loop-less c = omega (arith, next-after _ _ _ (c .before .before .before .before .before .before .before .before .before .before .before .before .before .before .before .before .before .before .loop-test .taken) (c .before .before .before .before .before .before .before .before .before .before .before .before .before .before .before .before .before .field-at .ensures), (c .before .before .before .before .before .before .before .before .before .before .before .before .before .before .before .before .before .before .loop-test .taken))
 
 loop-again : tie.Need-loop-again Inv-loop μ-loop
-loop-again c = turn-on _ _ _ _ _ _ (c .before .before .before .before .before .before .before .before .before .before .before .before .before .before .before .before .before .before .before .loop .inv) _ _ _ (c .before .before .before .before .before .before .before .before .before .before .before .before .before .before .before .before .before .before .loop-test .taken) (c .before .before .before .before .before .before .before .before .before .before .before .before .before .before .before .before .before .field-at .ensures) (c .before .before .before .before .before .before .before .before .before .before .before .before .perform .ensures .0) (c .before .before .before .before .before .before .before .before .before .before .before .before .perform .ensures .1) (c .before .before .enum-told2 .given .1) _ (c .before .field-control .ensures) _ (c .issues-of .ensures .0) (c .issues-of .ensures .1)
+loop-again c = turn-on _ _ _ _ _ _ (c .before .before .before .before .before .before .before .before .before .before .before .before .before .before .before .before .before .before .before .loop .inv) _ _ _ (c .before .before .before .before .before .before .before .before .before .before .before .before .before .before .before .before .before .before .loop-test .taken) (c .before .before .before .before .before .before .before .before .before .before .before .before .before .before .before .before .before .field-at .ensures) (c .before .before .before .before .before .before .before .before .before .before .before .before .perform .ensures .0) (c .before .before .before .before .before .before .before .before .before .before .before .before .perform .ensures .1) (c .before .before .enum-told2 .given .1) _ (c .before .field-control .ensures) _ (c .issue-of .ensures)
 
 same-length-5 : tie.Need-same-length-5 Inv-loop μ-loop
 same-length-5 c = (c .before .loop .inv .size .srca) ∙ sym (c .before .before .before .before .before .before .before .before .before .if1 .left)
@@ -139,7 +140,7 @@ run-spec =
     same-length-4
     returns-6
     field-control-requires
-    issues-of-requires
+    issue-of-requires
     add-count
     loop-less
     loop-again
