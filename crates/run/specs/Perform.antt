@@ -1,4 +1,5 @@
--- Document 01, "The job": what a field does to the lent numbers. Instructions act through the single step. Definitions only.
+-- Document 01, "The job": what a field does to the lent numbers. Instructions act through the single step; the record that a step returns is the
+-- one that `fieldControl` gives, so the record after a field is taken from there for every kind. Definitions only.
 use mathlib.Core.List.{List}
 use Prim.Native.Nat.{ℕ, _-_, _*_}
 use Rattle.cells.specs.declared.Span.{Span}
