@@ -18,8 +18,9 @@ use Rattle.rules.specs.declared.Verdict.{Verdict}
 use Rattle.rules.specs.declared.Verdict.the-variants.{Done, Refused}
 use Rattle.step.specs.State.{State, sized}
 use Rattle.step.specs.Step.{verdictOf, steppedOf, stateOf}
+use Rattle.demand.specs.Breaks.{brokenNumber}
 use Rattle.demand.specs.Demand.{StepDemand1}
-use Rattle.demand.proofs.Rules.{never}
+use Rattle.demand.proofs.Rules.{never, none-broken, rising, Lowest, lowest-is}
 
 -- no rule of a list has a number over n
 abbrev most : ℕ → List Broken → Bool
@@ -52,6 +53,23 @@ module _ (c : Control) (t w : ℕ) (s : State) where
       go true false e = let q : Shape ≡ r = cc in inl (omega (arith, ap numberOf q))
       go false range e = let q : StateLength ≡ r = cc in inr (sym (ap numberOf q))
 
+  -- the rules stand in the order of their numbers
+  judged : (r : Refusal) → judgement c t w ≡ Refused r → Lowest (rules c t w) r
+  unfolding judgement rules fieldRules rising
+  judged r e = lowest-is 0 (rules c t w) r refl e
+
+  unjudged : judgement c t w ≡ Done → (j : ℕ) → brokenNumber j (rules c t w) ≡ false
+  unfolding judgement
+  unjudged e = none-broken (rules c t w) e
+
   pub step-demand1 : StepDemand1 c t w s
   unfolding steppedOf stateOf
-  step-demand1 = record { kept = λ r e. rw e; record-kept = λ r e. rw e; tabled = tabled }
+  step-demand1 =
+      record {
+        kept = λ r e. rw e;
+        record-kept = λ r e. rw e;
+        tabled = tabled;
+        broken = λ r e. judged r e .broken;
+        lowest = λ r e. judged r e .lower;
+        unbroken = unjudged;
+      }

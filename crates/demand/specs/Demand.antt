@@ -4,12 +4,13 @@ use mathlib.Core.Path.{_≡_}
 use mathlib.Core.Bool.{true, false}
 use mathlib.Core.List.{List}
 use mathlib.Core.Logic.{_⊎_}
-use Prim.Native.Nat.{ℕ, _≤_}
+use Prim.Native.Nat.{ℕ, _≤_, _<_}
 use Rattle.word.specs.Refusal.{numberOf}
 use Rattle.word.specs.declared.Refusal.{Refusal}
 use Rattle.word.specs.declared.Refusal.the-variants.{Shape, StateLength}
 use Rattle.control.specs.declared.Control.{Control}
 use Rattle.control.specs.Record.{start}
+use Rattle.rules.specs.Rules.{rules, judgement}
 use Rattle.rules.specs.declared.Verdict.the-variants as verdict
 use Rattle.step.specs.State.{State, sized}
 use Rattle.step.specs.Step.{verdictOf, steppedOf, stateOf}
@@ -23,7 +24,7 @@ use Rattle.precheck.specs.declared.Checked.the-variants as checked
 use Rattle.run.specs.Run.{ran, runOf}
 use Rattle.lines.specs.Lines.{linesOf}
 use Rattle.run.specs.declared.Outcome.the-variants.{Finished, Refused}
-use Rattle.demand.specs.Breaks.{breaks, FirstBroken, issueFields}
+use Rattle.demand.specs.Breaks.{brokenNumber, breaks, FirstBroken, issueFields}
 
 -- no field of the job breaks a rule
 abbrev pub Unbroken : List ℕ → Type 0
@@ -64,3 +65,7 @@ pub record StepDemand1 (c : Control) (t w : ℕ) (s : State) : Type 0 where
   pub kept : (r : Refusal) → verdictOf c t w s ≡ verdict.Refused r → stateOf c t w s ≡ s
   pub record-kept : (r : Refusal) → verdictOf c t w s ≡ verdict.Refused r → steppedOf c t w s .control ≡ c
   pub tabled : (r : Refusal) → verdictOf c t w s ≡ verdict.Refused r → (numberOf r ≤ 7) ⊎ (numberOf r ≡ 9)
+  -- among the rules 2 to 7 the lowest number counts, and a step is done where none is broken
+  pub broken : (r : Refusal) → judgement c t w ≡ verdict.Refused r → brokenNumber (numberOf r) (rules c t w) ≡ true
+  pub lowest : (r : Refusal) → judgement c t w ≡ verdict.Refused r → (j : ℕ) → j < numberOf r → brokenNumber j (rules c t w) ≡ false
+  pub unbroken : judgement c t w ≡ verdict.Done → (j : ℕ) → brokenNumber j (rules c t w) ≡ false
