@@ -22,6 +22,8 @@ second generate SEED COUNT DIR   writes DIR/0000.job and so on
 second vectors SEED COUNT        lines of job in hexadecimal, space, output with | for newlines
 second coverage SEED COUNT       what so many generated jobs cover
 second check SEED COUNT          holds the engine against itself over generated jobs
+second store SEED COUNT FILE..   the stored jobs: the paper's, those of the files, and so many generated ones
+second stored FILE               what the stored jobs print, each below a line -- N
 second selftest                  the paper's worked numbers
 FILE can be - for standard input
 ";
@@ -52,6 +54,23 @@ fn vector(bytes: &[u8]) -> String {
         "{hex} {}\n",
         output(bytes, &mut State::zero()).replace('\n', "|")
     )
+}
+
+/// The stored jobs one after another, each behind its length in two bytes, the low byte first.
+fn stored(bytes: &[u8]) -> Result<Vec<&[u8]>, Failure> {
+    let (mut jobs, mut rest) = (Vec::new(), bytes);
+    while let [low, high, after @ ..] = rest {
+        let length = usize::from(u16::from_le_bytes([*low, *high]));
+        if length > LIMIT + 1 || length > after.len() {
+            return Err("a stored job is too long or cut off".into());
+        }
+        jobs.push(&after[..length]);
+        rest = &after[length..];
+    }
+    if !rest.is_empty() {
+        return Err("a byte is left over".into());
+    }
+    Ok(jobs)
 }
 
 fn command(arguments: &[&str]) -> Result<bool, Failure> {
@@ -94,6 +113,25 @@ fn command(arguments: &[&str]) -> Result<bool, Failure> {
             let (text, passed) = check(seed.parse()?, count.parse()?);
             out.write_all(text.as_bytes())?;
             good = passed;
+        }
+        ["store", seed, count, ref files @ ..] => {
+            let mut jobs = paper_jobs();
+            for file in files {
+                jobs.push(read_job(file)?);
+            }
+            let mut rng = Rng(seed.parse()?);
+            jobs.extend((0..count.parse::<u64>()?).map(|_| job(&mut rng)));
+            for bytes in &jobs {
+                // A length that the reader takes: one byte more than a job may have tells enough.
+                let bytes = &bytes[..bytes.len().min(LIMIT + 1)];
+                out.write_all(&(bytes.len() as u16).to_le_bytes())?;
+                out.write_all(bytes)?;
+            }
+        }
+        ["stored", file] => {
+            for (n, bytes) in stored(&std::fs::read(file)?)?.iter().enumerate() {
+                write!(out, "-- {n}\n{}", output(bytes, &mut State::zero()))?;
+            }
         }
         ["selftest"] => {
             let tests = selftest();
@@ -245,6 +283,43 @@ fn product(a: &[u32], b: &[u32], old: u32, format: u8, phase: u8) -> u32 {
     state.dst[0]
 }
 
+/// A job with SrcA rows, one row of SrcB above seven of zeros and eight Dst rows of zeros; then the fields given, and
+/// the first Dst row as output.
+fn row_job(a_rows: &[u32], b_row: &[u32], fields: &[Vec<u8>]) -> Vec<u8> {
+    let mut b_rows = vec![0; 128];
+    b_rows[..b_row.len()].copy_from_slice(b_row);
+    let before = [
+        settings(6, 1),
+        load(0, 0, a_rows),
+        load(1, 0, &b_rows),
+        vec![4, 1, 0, 0],
+        vec![4, 1, 0, 1],
+        vec![8, 4, 0, 0, 0, 8, 0],
+    ];
+    [before.concat(), fields.concat(), vec![6, 3, 0, 0, 0, 1]].concat()
+}
+
+/// The paper's numbers that it does not mark as proved, as jobs: the row of SrcB shows in Dst through a SrcA
+/// with ones on its diagonal, so it holds 1 to 16 as numbers.
+fn paper_jobs() -> Vec<Vec<u8>> {
+    let (mut ones, mut column) = (vec![0; 256], vec![0; 256]);
+    let wide = [datum(0, 139, 0), datum(0, 127, 0), datum(0, 127, 0)];
+    for k in 0..16 {
+        ones[k * 17] = datum(0, 127, 0);
+        column[k * 16] = wide.get(k).copied().unwrap_or(0);
+    }
+    // The datum of a whole number from 1 to 16.
+    let whole = |n: u32| datum(0, 127 + n.ilog2(), (n << (10 - n.ilog2())) & 1023);
+    let count: Vec<u32> = (1..=16).map(whole).collect();
+    vec![
+        row_job(&ones, &count, &[issue(0x1800_0000), issue(0x2600_0000)]),
+        row_job(&ones, &count, &[issue(0x1800_0400), issue(0x2600_0000)]),
+        row_job(&column, &wide, &[issue(0x2600_0000)]),
+        Vec::new(),
+        vec![0; LIMIT + 1],
+    ]
+}
+
 /// A datum from sign, exponent and mantissa.
 fn datum(sign: u32, e: u32, m: u32) -> u32 {
     (sign << 18) | (e << 10) | m
@@ -265,25 +340,14 @@ fn selftest() -> Vec<(&'static str, bool)> {
     };
     let (one, two) = (datum(0, 127, 0), datum(0, 128, 0));
     let (minus_one, infinity) = (datum(1, 127, 0), datum(0, 255, 0));
-    // The 16 numbers of SrcA's column 0 only, and of SrcB's row 0 only.
+    // The 16 numbers of SrcA's column 0 only.
     let mut a_rows = vec![0; 256];
     for k in 0..16 {
         a_rows[k * 16] = two;
     }
-    let b_rows: Vec<u32> = (0..128).map(|n| if n < 16 { one } else { 0 }).collect();
     let multiply = |word: u32, more: &[Vec<u8>]| {
-        let mut fields = vec![
-            settings(6, 1),
-            load(0, 0, &a_rows),
-            load(1, 0, &b_rows),
-            vec![4, 1, 0, 0],
-            vec![4, 1, 0, 1],
-            vec![8, 4, 0, 0, 0, 8, 0],
-            issue(word),
-        ];
-        fields.extend_from_slice(more);
-        fields.push(vec![6, 3, 0, 0, 0, 1]);
-        prints(&fields)
+        let fields = [&[issue(word)], more].concat();
+        prints(&[row_job(&a_rows, &[one; 16], &fields)])
     };
     let row = format!("D 0 42000000{}\n", " 00000000".repeat(15));
     let mut at_1020 = matrix_record();

@@ -7,19 +7,15 @@ use Rattle.show.proofs.put_first.Reads as reads
 use Rattle.show.proofs.put_first.Lts as lts
 use Rattle.io.proofs.write_all.Reads as write-all-reads
 
--- src/lib.rt:6:26
 slice-aggregate-write-all : tie.Need-slice-aggregate-write-all
 slice-aggregate-write-all c = sym (length-take-le _ _ (c .before .if1 .taken))
 
--- src/lib.rt:6:9
 write-all-requires : tie.Need-write-all-requires
 write-all-requires c κs = search needs
 
--- src/lib.rt:4:1
 returns : tie.Need-returns
 returns c = search needs
 
--- src/lib.rt:4:1
 returns-2 : tie.Need-returns-2
 returns-2 c = search needs
 

@@ -5,14 +5,14 @@ use lib.ListN.{length}
 use mathlib.Core.List.{[]}
 use mathlib.Core.Path.{sym, _∙_}
 use borrow.Author.Needs.{needs}
-use Rattle.emulate.proofs.put_lines.Statement.{statement}
-use Rattle.emulate.proofs.put_lines.Tie as tie
-use Rattle.emulate.proofs.put_lines.Reads as reads
-use Rattle.emulate.proofs.put_lines.Lts as lts
+use Rattle.show.proofs.put_lines.Statement.{statement}
+use Rattle.show.proofs.put_lines.Tie as tie
+use Rattle.show.proofs.put_lines.Reads as reads
+use Rattle.show.proofs.put_lines.Lts as lts
 use Rattle.lines.proofs.line_text.Reads as line-text-reads
 use Rattle.lines.proofs.next.Reads as next-reads
 use Rattle.lines.proofs.start.Reads as start-reads
 use Rattle.show.proofs.put.Reads as put-reads
 
 abbrev Inv-loop : tie.InvT-loop
 Inv-loop job dst registers c₀ c = Unit {0}
@@ -20,43 +20,33 @@ Inv-loop job dst registers c₀ c = Unit {0}
 abbrev μ-loop : tie.MeasureT-loop
 μ-loop job dst registers c₀ c = length (linesAt job c (state [] [] [] []))
 
--- src/main.rt:6:9
 start-requires : tie.Need-start-requires Inv-loop μ-loop
 start-requires c κs = search needs
 
--- src/main.rt:7:5
 loop-holds : tie.Need-loop-holds Inv-loop μ-loop
 loop-holds c = tt
 
--- src/main.rt:8:13
 next-requires : tie.Need-next-requires Inv-loop μ-loop
 next-requires c κs = search needs
 
--- src/main.rt:10:27
 enum-known-f : tie.Need-enum-known-f Inv-loop μ-loop
 enum-known-f c = search needs
 
--- src/main.rt:11:27
 line-text-requires : tie.Need-line-text-requires Inv-loop μ-loop
 line-text-requires c κs = search needs
 
--- src/main.rt:11:17
 put-requires : tie.Need-put-requires Inv-loop μ-loop
 put-requires c κs = search needs
 
--- src/main.rt:7:5
 loop-less : tie.Need-loop-less Inv-loop μ-loop
 loop-less c = fewer _ (state [] [] [] []) _ _ _ (sym (c .before .before .before .before .before .next .ensures) ∙ (c .before .before .before .f .given .1))
 
--- src/main.rt:7:5
 loop-again : tie.Need-loop-again Inv-loop μ-loop
 loop-again c = tt
 
--- src/main.rt:14:27
 enum-told : tie.Need-enum-told Inv-loop μ-loop
 enum-told c = search needs
 
--- src/main.rt:14:27
 returns : tie.Need-returns Inv-loop μ-loop
 returns c = search needs
 

@@ -1,0 +1,65 @@
+// Runs the stored jobs: standard input holds one job after another, each behind its length in two bytes, the low byte
+// first. Each job runs on files of zeros, and what it prints stands below a line `-- N` with its index.
+ghost use Prim.Native.Nat.{_<_};
+
+fn run_job(job: &[u8]) {
+    let mut srca = [0u32; 2048];
+    let mut srcb = [0u32; 2048];
+    let mut dst = [0u32; 8192];
+    let mut registers = [0u32; 192];
+    let outcome = run::run(job, &mut srca, &mut srcb, &mut dst, &mut registers);
+    show::put_outcome(job, outcome, &dst, &registers);
+}
+
+fn put_index(index: u64) {
+    io::write_all(1, b"-- ");
+    io::print_decimal(1, index);
+    io::write_all(1, b"\n");
+}
+
+fn wide(x: u8) -> usize
+    ensures { λ r. ⌜ r < 256 ⌝ }
+{
+    x as usize
+}
+
+fn length_of(head: &[u8; 2]) -> usize {
+    wide(head[0]) + 256 * wide(head[1])
+}
+
+// Fills the slice with a job and runs it; false where the input ends before that.
+fn read_and_run(index: u64, job: &mut [u8]) -> bool {
+    if io::read_full(0, job) < job.len() {
+        return false;
+    }
+    put_index(index);
+    run_job(job);
+    true
+}
+
+fn run_first(index: u64, length: usize, space: &mut [u8]) -> bool {
+    if length <= space.len() {
+        read_and_run(index, &mut space[..length])
+    } else {
+        false
+    }
+}
+
+// False where no whole job is left.
+fn run_next(index: u64) -> bool {
+    let mut head = [0u8; 2];
+    if io::read_full(0, &mut head) < 2 {
+        return false;
+    }
+    let mut space = [0u8; 8193];
+    run_first(index, length_of(&head), &mut space)
+}
+
+// No more than 65,536 jobs.
+fn main() {
+    for index in 0..65536u64 {
+        if !run_next(index) {
+            return;
+        }
+    }
+}
