@@ -1,0 +1,2 @@
+-- That no packed answer loses anything.
+pub mod Unpacked
