@@ -1,15 +1,15 @@
 -- A part of a finite datum, as `part` makes it: two exact products. Assumes nothing.
 use mathlib.Core.Path.{_≡_, refl, sym, ap, _∙_, subst}
-use Prim.Native.Nat.{ℕ, zero, suc, _+_, _-_, _*_, _/_, _%_, _^_, _≤_, _<_}
+use Prim.Native.Nat.{ℕ, zero, suc, _+_, _*_, _/_, _%_, _^_, _≤_, _<_}
 use native.Mathlib.Nat.{mul-one, mul-comm, mul-assoc, lt-irrefl, lt-of-lt-of-le, pow-succ'}
 use native.Mathlib.Omega.{arith}
 use mathlib.Core.Bool.{Bool, true, false, cond, _&&_}
 use borrow.Author.Tests.{le-leb, lt-leb, leb-true, leb-false, lt-ltb, ne-eqb}
 use lib.IntN.{pos, negsuc}
-use lib.Dec.{T, eqb, leb, ltb, lit<}
+use lib.Dec.{T, eqb, leb, ltb, lit<, le→leb}
 use lib.Pow.{pow-add, pow-pos, pow-mono, shl-lt}
 use lib.Count.{trailingZeros}
-use lib.Ieee.{Float, nan, inf, fin, binary32, minus, unlike, odd, round, mul, ofInt, ofFields, ofBits, fits}
+use lib.Ieee.{Float, nan, inf, fin, binary32, minus, unlike, odd, round, mul, ofInt, ofFields, ofBits, fits, inFloat}
 use lib.Ieee.Back.{round-whole}
 use lib.Ieee.Exact.{HasValue, odd-sign, round-exact}
 use lib.Ieee.Fits.{odd-fits, mul-fits}
@@ -106,34 +106,43 @@ power s (suc x) h k =
     (rescale (odd 24 s 8388608 x 149) s (8388608 * 2 ^ x) (2 ^ 149) (2 ^ suc x) (2 ^ 127) (pow-pos 149)
     (ap (λ (z : ℕ). z * 2 ^ 149) (pow-succ' 2 x) ∙ doubled (2 ^ x)) (odd-sign 24 s 8388608 x 149))
 
-pattern-is : (s : Bool) (b e : ℕ) → leb 2147483648 b ≡ s → b % 2147483648 / 8388608 ≡ e → b % 8388608 ≡ 0 → ofBits binary32 b ≡ ofFields binary32 s e 0
+-- the pattern of the sign and the exponent h and no digits
+unit-is : (h : ℕ) → h < 512 → ofBits binary32 (h * 8388608) ≡ ofFields binary32 (leb 256 h) (h % 256) 0
 unfolding ofBits
-pattern-is s b e p q r = λ i. ofFields binary32 (p i) (q i) (r i)
+unit-is h k =
+    let e : h * 8388608 % 2147483648 / 8388608 ≡ h % 256 = omega arith in
+    let t : h * 8388608 % 8388608 ≡ 0 = omega arith in
+    λ i. ofFields binary32 (sign (leb 256 h) refl i) (e i) (t i)
+  where
+    sign : (b : Bool) → leb 256 h ≡ b → leb 2147483648 (h * 8388608) ≡ leb 256 h
+    sign true t = le-leb 2147483648 (h * 8388608) (omega (arith, leb-true 256 h t)) ∙ sym t
+    sign false t = lt-leb 2147483648 (h * 8388608) (omega (arith, leb-false 256 h t)) ∙ sym t
+
+pub infinite : (h : ℕ) → h < 512 → h % 256 ≡ 255 → ofBits binary32 (h * 8388608) ≡ inf (leb 256 h)
+unfolding ofFields
+infinite h k e = unit-is h k ∙ ap (λ (x : ℕ). ofFields binary32 (leb 256 h) x 0) e
 
 -- ---- what `part` returns
 
--- the last line of the code
-abbrev made : ℕ → ℕ → Float
+-- an f32 holds a factor
+pub exact : (n : ℕ) → n < 2048 → T (inFloat binary32 (pos n))
+unfolding inFloat
+exact n h = le→leb n 16777216 (omega arith)
+
+-- the code's product of a pattern's number and a factor
+abbrev pub made : ℕ → ℕ → Float
 made b n = mul binary32 (ofBits binary32 b) (mul binary32 (ofInt binary32 (pos n)) (ofBits binary32 981467136))
 
-from-pattern : (s : Bool) (b n e : ℕ) → 0 < n → n < 2048 → 0 < e → e < 255 → leb 2147483648 b ≡ s → b % 2147483648 / 8388608 ≡ e → b % 8388608 ≡ 0 → made b n ≡ partOf s n e
+pub made-part : (h n : ℕ) → 0 < n → n < 2048 → h < 512 → 0 < h % 256 → h % 256 < 255 → made (h * 8388608) n ≡ partOf (leb 256 h) n (h % 256)
 unfolding partOf
-from-pattern s b n e n0 h e0 k p q r =
-    scaled (ofBits binary32 b) (mul binary32 (ofInt binary32 (pos n)) (ofBits binary32 981467136)) s n e h k
-    (subst (λ (z : Float). HasValue z s (2 ^ e) (2 ^ 127)) (sym (pattern-is s b e p q r)) (power s e e0 k)) (thousandth n h)
-    ∙ ap (λ (t : Bool). odd 11 t n e 137) (sym (signed s))
+made-part h n n0 k l e0 e1 =
+    scaled (ofBits binary32 (h * 8388608)) (mul binary32 (ofInt binary32 (pos n)) (ofBits binary32 981467136)) (leb 256 h) n (h % 256) k e1
+    (subst (λ (z : Float). HasValue z (leb 256 h) (2 ^ (h % 256)) (2 ^ 127)) (sym (unit-is h l)) (power (leb 256 h) (h % 256) e0 e1)) (thousandth n k)
+    ∙ ap (λ (t : Bool). odd 11 t n (h % 256) 137) (sym (signed (leb 256 h)))
   where
     signed : (t : Bool) → (t && ltb 0 n) ≡ t
     signed true = lt-ltb 0 n n0
     signed false = refl
-
-pub negative-part : (n e : ℕ) → 0 < n → n < 2048 → 0 < e → e < 255 → made ((e + 256) * 8388608) n ≡ partOf true n e
-negative-part n e n0 h e0 k =
-    from-pattern true ((e + 256) * 8388608) n e n0 h e0 k (le-leb 2147483648 ((e + 256) * 8388608) (omega arith)) (omega arith) (omega arith)
-
-pub positive-part : (n e : ℕ) → 0 < n → n < 2048 → 0 < e → e < 255 → made (e * 8388608) n ≡ partOf false n e
-positive-part n e n0 h e0 k =
-    from-pattern false (e * 8388608) n e n0 h e0 k (lt-leb 2147483648 (e * 8388608) (omega arith)) (omega arith) (omega arith)
 
 pub zero-part : (s : Bool) (e : ℕ) → ofBits binary32 0 ≡ partOf s 0 e
 unfolding ofBits partOf

@@ -52,7 +52,7 @@ pub fn read(file: File, format: u8, x: u32) -> Datum
         }
         return Datum::NotANumber;
     }
-    Datum::Finite(finite::split(file, negative, e, m))
+    Datum::Finite(finite::split(file, (x >> 10) % 512, m))
 }
 
 // Whether a phase takes the low part of a file's numbers.
@@ -75,4 +75,25 @@ pub fn slice(low: bool, d: Datum) -> f32
         Datum::NotANumber => 0.0 / 0.0,
         Datum::Finite(s) => { if low { s.low } else { s.high } }
     }
+}
+
+// The slice of the datum in the low 19 bits of x, at once: `slice` of `read`.
+pub fn slice_of(file: File, format: u8, low: bool, x: u32) -> f32
+    ensures { λ r. ⌜ r ≡ sliceOf low (datumOf file format x) ⌝ }
+{
+    let e = (x >> 10) % 256;
+    let m = mantissa(format, x);
+    let n = finite::factor(file, low, m);
+    // With the sign, 2^(e - 127), or infinity where e is 255.
+    let unit = f32::from_bits((x >> 10) % 512 * 8388608);
+    if e == 255 {
+        if m == 0 {
+            return unit;
+        }
+        return 0.0 / 0.0;
+    }
+    if (e == 0) | (n == 0) {
+        return 0.0;
+    }
+    unit * ((n as f32) * 0.0009765625)
 }

@@ -2,7 +2,7 @@
 use datum::File;
 ghost use mathlib.Core.Path.{_≡_};
 ghost use mathlib.Core.Bool.{cond};
-ghost use Prim.Native.Nat.{_+_, _*_, _<_, _≤_};
+ghost use Prim.Native.Nat.{_+_, _*_, _%_, _<_, _≤_};
 ghost use lib.ListN.{length};
 ghost use Rattle.product.specs.Product.{storedOf, multiplied, fits};
 ghost use Rattle.product.specs.Workers.{slicesOf, sumsOf, rowAdded, rowsAdded};
@@ -28,7 +28,7 @@ fn slices(file: File, format: u8, phase: u8, src: &[u32], first: usize, out: &mu
     let mut i = 0usize;
     while i < out.len() {
         let x = src[at + i];
-        out[i] = datum::slice(low, datum::read(file, format, x));
+        out[i] = datum::slice_of(file, format, low, x);
         i += 1;
     }
 }
@@ -52,15 +52,23 @@ fn sums(fa: &[f32; 256], fb: &[f32; 128], i: usize) -> [f32; 16]
     acc
 }
 
+// The pattern itself, or 0 where it is not a number.
+fn number_or_zero(old: u32) -> u32
+    ensures { λ r. ⌜ (r % 2147483648 ≤ 2139095040) × (old % 2147483648 ≤ 2139095040 → r ≡ old) ⌝ }
+{
+    if old % 2147483648 > 2139095040 {
+        return 0;
+    }
+    old
+}
+
 // The old Dst number plus the sum, as it is stored.
 fn stored(old: u32, s: f32) -> u32
     ensures { λ r. ⌜ r ≡ storedOf old s ⌝ }
 {
-    if old % 2147483648 > 2139095040 {
-        return 0x7FC0_0000;
-    }
-    let x = f32::from_bits(old) + s;
-    if x != x {
+    let nan = old % 2147483648 > 2139095040;
+    let x = f32::from_bits(number_or_zero(old)) + s;
+    if nan | (x != x) {
         return 0x7FC0_0000;
     }
     f32::to_bits(x)

@@ -1,9 +1,12 @@
 -- `datum::read` meets its contract: one `returns` for each kind. Assumes nothing.
-use Rattle.datum.specs.Read.{signOf, exponentOf, splitOf}
+use Rattle.datum.specs.Read.{exponentOf, splitOf}
 use Rattle.datum.specs.declared.Datum.the-variants.{Finite}
-use mathlib.Core.Path.{sym, ap, _∙_}
+use mathlib.Core.Path.{_≡_, sym, ap, _∙_}
+use Prim.Native.Nat.{_/_, _%_}
+use native.Mathlib.Omega.{arith}
 use borrow.Author.Tests.{eq-eqb, ne-eqb}
 use borrow.Author.Needs.{needs}
+use Rattle.datum.proofs.AtOnce.{sign-is}
 use Rattle.datum.proofs.read.Statement.{statement}
 use Rattle.datum.proofs.read.Tie as tie
 
@@ -27,8 +30,9 @@ split-requires c κs = search needs
 returns-4 : tie.Need-returns-4
 returns-4 c =
     let a = c .before .before .before .before .args in
+    let e : a .x / 1024 % 512 % 256 ≡ exponentOf (a .x) = omega arith in
     simp (ne-eqb _ _ (c .before .before .if1 .left), ne-eqb _ _ (c .before .if2 .left))
-    (ap Finite (c .split .ensures ∙ ap (splitOf (a .file) (signOf (a .x)) (exponentOf (a .x))) (c .before .before .before .mantissa .ensures .0)))
+    (ap Finite (c .split .ensures ∙ (λ i. splitOf (a .file) (sign-is (a .x) i) (e i) (c .before .before .before .mantissa .ensures .0 i))))
 
 pub read-spec : {M : Type 1} → statement M
 read-spec =
