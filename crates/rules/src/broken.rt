@@ -69,7 +69,8 @@ fn judge_multiply(c: Control, thread: u8, m: Multiply) -> Verdict
     let s = c.settings;
     if is_modelled(s) {
         if both_owned(c) {
-            return refused_if(512 <= rows::row_dst(c, thread, m), Refusal::DstRow);
+            let x = control::thread_at(c, thread);
+            return refused_if(512 <= rows::row_dst(c.settings.base, x, m), Refusal::DstRow);
         }
         return Verdict::Refused(Refusal::BankOwner);
     }

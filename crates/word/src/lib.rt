@@ -171,18 +171,12 @@ enum Found {
     Nothing,
 }
 
-fn entry_at(i: usize) -> Entry
-    requires { ⌜ i < 20 ⌝ }
-    ensures { λ r. ⌜ r ≡ entryOf (getD table i noRow) ⌝ }
-{
-    TABLE[i]
-}
-
 fn find(opcode: u32) -> Found
     ensures { λ r. ⌜ r ≡ foundOf (lookup table opcode) ⌝ }
 {
+    let rows = TABLE;
     for i in 0..20 {
-        let e = entry_at(i);
+        let e = rows[i];
         if e.opcode == opcode {
             return Found::At(e);
         }

@@ -1,8 +1,12 @@
 -- `step::effect::product_of` meets its contract. Assumes nothing.
+use Rattle.rules.specs.Rows.{rowA, rowB, rowDst}
 use Rattle.step.specs.Effect.{productOf}
 use borrow.Author.Needs.{needs}
 use Rattle.step.proofs.effect.product_of.Statement.{statement}
 use Rattle.step.proofs.effect.product_of.Tie as tie
+
+thread-at-requires : tie.Need-thread-at-requires
+thread-at-requires c κs = search needs
 
 phase-of-requires : tie.Need-phase-of-requires
 phase-of-requires c κs = search needs
@@ -26,13 +30,14 @@ rows-of-requires : tie.Need-rows-of-requires
 rows-of-requires c κs = search needs
 
 returns : tie.Need-returns
-unfolding productOf
-returns c = simp ((c .rows-of .ensures), (c .before .row-dst .ensures), (c .before .before .bank-row2 .ensures), (c .before .before .before .row-b .ensures), (c .before .before .before .before .bank-row .ensures), (c .before .before .before .before .before .row-a .ensures), (c .before .before .before .before .before .before .phase-of .ensures))
+unfolding productOf rowA rowB rowDst
+returns c = simp (c .rows-of .ensures, c .before .row-dst .ensures, c .before .before .bank-row2 .ensures, c .before .before .before .row-b .ensures, c .before .before .before .before .bank-row .ensures, c .before .before .before .before .before .row-a .ensures, c .before .before .before .before .before .before .phase-of .ensures, c .before .before .before .before .before .before .before .thread-at .ensures)
 
 pub product-of-spec : {M : Type 1} → statement M
 product-of-spec =
     tie.close
     (tie.spec
+    thread-at-requires
     phase-of-requires
     row-a-requires
     bank-row-requires
