@@ -25,7 +25,7 @@ use Rattle.rules.specs.Rows.{bankRow, register, span, filledA, filledB, shifted
 use Rattle.rules.specs.Access.{noSets, noUnsets, scalarRight, fieldsRead, fieldsSet, fieldsUnset}
 use Rattle.step.specs.State.{State}
 use Rattle.step.specs.Effect.{productOf, rightward, leftward, shiftA, shiftB, scalarOf, operandB, scalarResult, scalar, fieldsEffect}
-use Rattle.precheck.specs.declared.Marks.{Marks}
+use Rattle.precheck.specs.Marks.{Marks}
 use Rattle.precheck.specs.Marks.{allSet, readsSet, instructionMarks}
 
 -- two lists of n numbers that agree at each place whose row is marked

@@ -24,7 +24,7 @@ use Rattle.step.proofs.Sizes.{sized-of}
 use Rattle.job.specs.Range.{InRange}
 use Rattle.job.specs.declared.Kind.{Kind}
 use Rattle.job.specs.declared.Kind.the-variants as kind
-use Rattle.precheck.specs.declared.Marks.{Marks}
+use Rattle.precheck.specs.Marks.{Marks}
 use Rattle.precheck.specs.Marks.{readsSet, setSrc, setDst, setRegister}
 use Rattle.precheck.specs.Fields.{loadedRows, oneRegister, unsetRead, fieldRules, fieldMarks}
 use Rattle.run.specs.Perform.{loaded, performed, stepVerdict}

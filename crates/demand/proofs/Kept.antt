@@ -11,7 +11,7 @@ use Rattle.control.specs.declared.Control.{Control}
 use Rattle.rules.specs.Access.{wordSets}
 use Rattle.job.specs.declared.Kind.{Kind}
 use Rattle.job.specs.declared.Kind.the-variants as kind
-use Rattle.precheck.specs.declared.Marks.{Marks}
+use Rattle.precheck.specs.Marks.{Marks}
 use Rattle.precheck.specs.Marks.{setSrc, setDst, setRegister, instructionMarks}
 use Rattle.precheck.specs.Fields.{fieldMarks}
 

@@ -15,7 +15,7 @@ use Rattle.rules.specs.declared.Verdict.the-variants.{Done}
 use Rattle.step.specs.State.{State}
 use Rattle.job.specs.declared.Kind.{Kind}
 use Rattle.job.specs.declared.Kind.the-variants as kind
-use Rattle.precheck.specs.declared.Marks.{Marks}
+use Rattle.precheck.specs.Marks.{Marks}
 use Rattle.precheck.specs.Marks.{allSet}
 use Rattle.precheck.specs.Fields.{oneRegister, fieldRules}
 use Rattle.lines.specs.Lines.{row, value, columns, rowLines, fieldLines}

@@ -15,7 +15,7 @@ use Rattle.rules.specs.Rules.{Broken, _when_, rules, lowest, fieldRules as word
 use Rattle.rules.specs.declared.Verdict.the-variants.{Done, Refused}
 use Rattle.job.specs.declared.Kind.{Kind}
 use Rattle.job.specs.declared.Kind.the-variants as kind
-use Rattle.precheck.specs.declared.Marks.{Marks}
+use Rattle.precheck.specs.Marks.{Marks}
 use Rattle.precheck.specs.Fields.{fieldRules}
 use Rattle.demand.specs.Breaks.{brokenNumber}
 

@@ -12,7 +12,7 @@ use Rattle.job.specs.declared.Kind.{Kind}
 use Rattle.job.specs.declared.Kind.the-variants as kind
 use Rattle.job.specs.declared.Field.{Field}
 use Rattle.job.proofs.Loaded.{values-fields, values-shape, values-settings}
-use Rattle.precheck.specs.declared.Marks.{Marks}
+use Rattle.precheck.specs.Marks.{Marks}
 use Rattle.precheck.specs.Marks.{unset}
 use Rattle.precheck.specs.Fields.{fieldControl, fieldMarks}
 use Rattle.precheck.specs.Check.{issueOf, checkFrom, precheckOf}

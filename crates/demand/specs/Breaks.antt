@@ -11,7 +11,7 @@ use Rattle.rules.specs.Rules.{Broken}
 use Rattle.job.specs.declared.Kind.{Kind}
 use Rattle.job.specs.declared.Kind.the-variants as kind
 use Rattle.job.specs.declared.Field.{Field}
-use Rattle.precheck.specs.declared.Marks.{Marks}
+use Rattle.precheck.specs.Marks.{Marks}
 use Rattle.precheck.specs.Fields.{fieldRules, fieldControl, fieldMarks}
 
 -- the rule of number n is among those broken

@@ -1,5 +1,6 @@
 -- A turn of the pre-check's walk. Assumes nothing.
 use mathlib.Core.Path.{_≡_, refl, sym, _∙_, ap}
+use mathlib.Core.Bool.{Bool, true, false}
 use mathlib.Core.List.{List, [], _∷_}
 use Prim.Native.Nat.{ℕ, _+_, _≤_, _<_}
 use native.Mathlib.Omega.{arith}
@@ -18,12 +19,16 @@ use Rattle.job.specs.declared.Shape.the-variants as shape
 use Rattle.job.specs.declared.Kind.{Kind}
 use Rattle.job.specs.declared.Kind.the-variants as kind
 use Rattle.job.specs.declared.Field.{Field}
+use types.Run.{OneOf, miss}
+use denote.Enum.Declared.{tagOf}
+use Rattle.job.proofs.Kind.{the-type}
+use Rattle.rules.specs.After.{controlAfter}
 use Rattle.job.proofs.Walk.{grows, ends, fields-end, fields-step}
 use Rattle.job.proofs.Shaped.{Sound, sound-at}
-use Rattle.precheck.specs.Marks.{unset}
-use Rattle.precheck.specs.Fields.{fieldRules, fieldControl, fieldMarks, controlAfterField}
+use Rattle.precheck.specs.Marks.{marks, unset}
+use Rattle.precheck.specs.Fields.{fieldRules, fieldControl, fieldMarks, controlAfterField, movesControl}
 use Rattle.precheck.specs.Check.{issueOf, unlessBroken, checkFrom, unlessWrong, precheckOf, checkedAnswer, precheckAnswer}
-use Rattle.precheck.specs.declared.Marks.{Marks}
+use Rattle.precheck.specs.Marks.{Marks}
 use Rattle.precheck.specs.declared.Checked.{Checked}
 use Rattle.precheck.specs.declared.Checked.the-variants.{Passed, Refused}
 use Rattle.precheck.proofs.Kept.{control-read}
@@ -96,6 +101,76 @@ module _ (job : List ℕ) (at : ℕ) (f : Field) (h : at < length job) (e : f �
   -- i are the field's issues, n those before it
   pub count-on : (n i : ℕ) → i ≡ issueOf (f .kind) → n ≤ at → n + i ≤ f .next
   count-on n i q l = omega (arith, issue-most (f .kind), next-after)
+
+-- ---- the walk's loop: what is found from here on is what is found from the start
+
+pub record Checking (job : List ℕ) (a b d r : List Bool) (c : Control) (n at : ℕ) : Type 0 where
+  pub checked : checkFrom job (fieldsFrom job at) c (marks a b d r) n ≡ checkFrom job (fieldsFrom job 0) start unset 0
+  pub few : n ≤ at
+  pub inside : at ≤ length job
+
+-- a field that is none of the other kinds' tags
+pub no-issue : (k : Kind) → OneOf (0 ∷ 1 ∷ 2 ∷ 3 ∷ 4 ∷ 6 ∷ 7 ∷ 8 ∷ 9 ∷ []) (tagOf the-type k) → issueOf k ≡ 0
+no-issue kind.Settings o = refl
+no-issue (kind.LoadSrc file rows) o = refl
+no-issue (kind.LoadDst rows) o = refl
+no-issue (kind.LoadRegister t r) o = refl
+no-issue (kind.HandOver file) o = refl
+no-issue (kind.Issue t w) o = absurd (miss (0 ∷ 1 ∷ 2 ∷ 3 ∷ 4 ∷ 6 ∷ 7 ∷ 8 ∷ 9 ∷ []) 5 tt o)
+no-issue (kind.OutputRows rows) o = refl
+no-issue (kind.OutputRegister t r) o = refl
+no-issue (kind.ZeroRows rows) o = refl
+no-issue kind.Wrong o = refl
+
+changes : true ≡ false → ⊥
+changes e = let z : _≡_ {A = ℕ} 0 1 = cc in omega arith
+
+-- a field that does not change the record
+pub still : (job : List ℕ) (c : Control) (place : ℕ) (k : Kind) → movesControl k ≡ false → c ≡ controlAfterField job c place k
+unfolding controlAfterField fieldControl
+still job c place kind.Settings e = absurd (changes e)
+still job c place (kind.LoadSrc file rows) e = refl
+still job c place (kind.LoadDst rows) e = refl
+still job c place (kind.LoadRegister t r) e = refl
+still job c place (kind.HandOver file) e = absurd (changes e)
+still job c place (kind.Issue t w) e = absurd (changes e)
+still job c place (kind.OutputRows rows) e = refl
+still job c place (kind.OutputRegister t r) e = refl
+still job c place (kind.ZeroRows rows) e = refl
+still job c place kind.Wrong e = refl
+
+module _ (job : List ℕ) (a b d r : List Bool) (c : Control) (n at : ℕ) (t : Checking job a b d r c n at) (f : Field) (h : at < length job) (e : f ≡ fieldAt job at) where
+  -- v is what the field breaks
+  module _ (v : Verdict) (p : v ≡ lowest (fieldRules c (marks a b d r) (f .kind))) where
+    pub turn-stop : (x : Refusal) → v ≡ verdict.Refused x → Refused x (f .place) ≡ checkFrom job (fieldsFrom job 0) start unset 0
+    turn-stop x q = sym (check-stop job at c (marks a b d r) n f v h e p x q) ∙ t .checked
+
+    -- what the code makes of the record, of the marks and of the count
+    pub turn-on : v ≡ verdict.Done → {c′ : Control} {a′ b′ d′ r′ : List Bool} {n′ : ℕ} → c′ ≡ controlAfterField job c (f .place) (f .kind) → marks a′ b′ d′ r′ ≡ fieldMarks c (marks a b d r) (f .kind) → n′ ≡ n + issueOf (f .kind)
+        → Checking job a′ b′ d′ r′ c′ n′ (f .next)
+    turn-on q {c′ = c′} k m i =
+        record {
+          checked = rw (m, i) (sym (check-on job at c (marks a b d r) n f v h e p c′ q k) ∙ t .checked);
+          few = rw i (count-on job at f h e n (issueOf (f .kind)) refl (t .few));
+          inside = next-inside job at f h e;
+        }
+
+  -- an issue field
+  module _ (g w : ℕ) (v : Verdict) (k : f .kind ≡ kind.Issue g w) (p : v ≡ lowest (fieldRules c (marks a b d r) (kind.Issue g w))) where
+    by-kind : v ≡ lowest (fieldRules c (marks a b d r) (f .kind))
+    by-kind = rw k p
+
+    pub issue-stop : (x : Refusal) → v ≡ verdict.Refused x → Refused x (f .place) ≡ checkFrom job (fieldsFrom job 0) start unset 0
+    issue-stop x q = turn-stop v by-kind x q
+
+    pub issue-on : v ≡ verdict.Done → {c′ : Control} {a′ b′ d′ r′ : List Bool} → c′ ≡ controlAfter c g w → marks a′ b′ d′ r′ ≡ fieldMarks c (marks a b d r) (kind.Issue g w) → Checking job a′ b′ d′ r′ c′ (n + 1) (f .next)
+    unfolding controlAfterField fieldControl
+    issue-on q l m = turn-on v by-kind q (rw k l) (rw k m) (rw k)
+
+  -- another field
+  module _ (z : issueOf (f .kind) ≡ 0) (v : Verdict) (p : v ≡ lowest (fieldRules c (marks a b d r) (f .kind))) where
+    pub other-on : v ≡ verdict.Done → {c′ : Control} {a′ b′ d′ r′ : List Bool} → c′ ≡ controlAfterField job c (f .place) (f .kind) → marks a′ b′ d′ r′ ≡ fieldMarks c (marks a b d r) (f .kind) → Checking job a′ b′ d′ r′ c′ n (f .next)
+    other-on q l m = turn-on v p q l m (omega (arith, z))
 
 -- ---- the shape first
 

@@ -18,7 +18,7 @@ use Rattle.job.specs.declared.Shape.{Shape}
 use Rattle.job.specs.declared.Shape.the-variants as shape
 use Rattle.precheck.specs.Marks.{unset}
 use Rattle.precheck.specs.Fields.{fieldRules, fieldControl, fieldMarks}
-use Rattle.precheck.specs.declared.Marks.{Marks}
+use Rattle.precheck.specs.Marks.{Marks}
 use Rattle.precheck.specs.declared.Checked.{Checked}
 use Rattle.precheck.specs.declared.Checked.the-variants.{Passed, Refused}
 

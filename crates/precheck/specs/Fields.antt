@@ -1,6 +1,6 @@
 -- Document 01, "The job", "Set and unset" and "Numbers given back": which rules 2 to 8 a field breaks, judged on the control record and the
 -- marks and on no lent number, and what it makes of both. Definitions only.
-use mathlib.Core.Bool.{Bool, cond, not}
+use mathlib.Core.Bool.{Bool, true, false, cond, not}
 use mathlib.Core.List.{List, [], _∷_, _++_}
 use Prim.Native.Nat.{ℕ, _+_}
 use lib.Dec.{eqb, leb}
@@ -24,7 +24,7 @@ use Rattle.job.specs.Shape.{classOf}
 use Rattle.job.specs.declared.Kind.{Kind}
 use Rattle.job.specs.declared.Kind.the-variants as kind
 use Rattle.precheck.specs.Marks.{allSet, readsSet, setSrc, setDst, setRegister, instructionMarks}
-use Rattle.precheck.specs.declared.Marks.{Marks}
+use Rattle.precheck.specs.Marks.{Marks}
 
 abbrev pub banksOf : Control → File → Banks
 banksOf c A = c .a
@@ -71,6 +71,19 @@ fieldControl job c place (kind.OutputRows rows) = c
 fieldControl job c place (kind.OutputRegister t r) = c
 fieldControl job c place (kind.ZeroRows rows) = c
 fieldControl job c place kind.Wrong = c
+
+-- which fields change it
+abbrev pub movesControl : Kind → Bool
+movesControl kind.Settings = true
+movesControl (kind.LoadSrc file rows) = false
+movesControl (kind.LoadDst rows) = false
+movesControl (kind.LoadRegister t r) = false
+movesControl (kind.HandOver file) = true
+movesControl (kind.Issue t w) = true
+movesControl (kind.OutputRows rows) = false
+movesControl (kind.OutputRegister t r) = false
+movesControl (kind.ZeroRows rows) = false
+movesControl kind.Wrong = false
 
 -- settings at a place of any bytes: the 160 bytes after the header, or none where the job is too short for them
 unfoldable pub settledAt : List ℕ → Control → ℕ → Control

@@ -11,11 +11,19 @@ use Rattle.datum.specs.declared.File.the-variants.{A, B}
 use Rattle.rules.specs.declared.Reads.{Reads}
 use Rattle.rules.specs.declared.Sets.{Sets}
 use Rattle.rules.specs.declared.Unsets.{Unsets}
-use Rattle.precheck.specs.declared.Marks.{Marks}
+
+pub record Marks : Type 0 where
+  pub srca : List Bool
+  pub srcb : List Bool
+  pub dst : List Bool
+  pub registers : List Bool
+
+abbrev pub marks : List Bool → List Bool → List Bool → List Bool → Marks
+marks a b d r = record { srca = a; srcb = b; dst = d; registers = r }
 
 -- all start unset
 unfoldable pub unset : Marks
-unset = record { srca = replicate 128 false; srcb = replicate 128 false; dst = replicate 512 false; registers = replicate 192 false }
+unset = marks (replicate 128 false) (replicate 128 false) (replicate 512 false) (replicate 192 false)
 
 -- every row, or register, of a span is set
 unfoldable pub allSet : List Bool → Span → Bool
@@ -35,8 +43,8 @@ readsSet m r =
 -- ---- marks set and unset
 
 abbrev pub withSrc : Marks → File → List Bool → Marks
-withSrc m A l = record { srca = l; srcb = m .srcb; dst = m .dst; registers = m .registers }
-withSrc m B l = record { srca = m .srca; srcb = l; dst = m .dst; registers = m .registers }
+withSrc m A l = marks l (m .srcb) (m .dst) (m .registers)
+withSrc m B l = marks (m .srca) l (m .dst) (m .registers)
 
 abbrev pub srcOf : Marks → File → List Bool
 srcOf m A = m .srca
@@ -46,17 +54,13 @@ unfoldable pub setSrc : Marks → File → Span → Marks
 setSrc m f s = withSrc m f (overSpan s true (srcOf m f))
 
 unfoldable pub setDst : Marks → Span → Marks
-setDst m s = record { srca = m .srca; srcb = m .srcb; dst = overSpan s true (m .dst); registers = m .registers }
+setDst m s = marks (m .srca) (m .srcb) (overSpan s true (m .dst)) (m .registers)
 
 unfoldable pub setRegister : Marks → Span → Marks
-setRegister m s = record { srca = m .srca; srcb = m .srcb; dst = m .dst; registers = overSpan s true (m .registers) }
+setRegister m s = marks (m .srca) (m .srcb) (m .dst) (overSpan s true (m .registers))
 
 -- an instruction sets what it sets, and its clear unsets
 unfoldable pub instructionMarks : Marks → Sets → Unsets → Marks
 instructionMarks m s u =
-    record {
-      srca = overSpan (u .a) false (overSpan (s .a) true (m .srca));
-      srcb = overSpan (u .b) false (overSpan (s .b) true (m .srcb));
-      dst = m .dst;
-      registers = overSpan (s .registers) true (m .registers);
-    }
+    marks (overSpan (u .a) false (overSpan (s .a) true (m .srca))) (overSpan (u .b) false (overSpan (s .b) true (m .srcb))) (m .dst)
+    (overSpan (s .registers) true (m .registers))

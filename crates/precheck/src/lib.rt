@@ -7,9 +7,9 @@ use control::Control;
 use datum::File;
 use job::Kind;
 use job::Shape;
+use judging::check_issue;
 use judging::judge_field;
-use marking::field_marks;
-use marking::start_marks;
+use marking::mark_field;
 use rules::Verdict;
 use word::Refusal;
 ghost use mathlib.Core.Path.{_≡_};
@@ -17,16 +17,8 @@ ghost use Rattle.control.specs.Record.{start};
 ghost use Rattle.control.specs.Change.{handOver};
 ghost use Rattle.job.specs.Fields.{fieldsFrom};
 ghost use Rattle.precheck.specs.Marks.{unset};
-ghost use Rattle.precheck.specs.Fields.{banksOf, withFile, settledAt, controlAfterField};
+ghost use Rattle.precheck.specs.Fields.{banksOf, withFile, settledAt, controlAfterField, movesControl};
 ghost use Rattle.precheck.specs.Check.{issueOf, checkFrom, precheckOf, checkedAnswer, precheckAnswer};
-
-// A mark for each row of SrcA and of SrcB, each Dst row, and each register.
-pub struct Marks {
-    pub srca: [bool; 128],
-    pub srcb: [bool; 128],
-    pub dst: [bool; 512],
-    pub registers: [bool; 192],
-}
 
 // Passed with the count of issue fields, or the refusal and its place.
 pub enum Checked {
@@ -97,6 +89,30 @@ pub fn field_control(job: &[u8], c: Control, place: usize, kind: Kind) -> Contro
     }
 }
 
+// Whether a field changes the record.
+pub fn moves(kind: Kind) -> bool
+    ensures { λ r. ⌜ r ≡ movesControl kind ⌝ }
+{
+    match kind {
+        Kind::Settings => true,
+        Kind::LoadSrc { file: _, rows: _ } => false,
+        Kind::LoadDst { rows: _ } => false,
+        Kind::LoadRegister {
+            thread: _,
+            register: _,
+        } => false,
+        Kind::HandOver { file: _ } => true,
+        Kind::Issue { thread: _, word: _ } => true,
+        Kind::OutputRows { rows: _ } => false,
+        Kind::OutputRegister {
+            thread: _,
+            register: _,
+        } => false,
+        Kind::ZeroRows { rows: _ } => false,
+        Kind::Wrong => false,
+    }
+}
+
 // ---- the walk
 
 // 1 for an issue field.
@@ -127,20 +143,34 @@ pub fn issue_of(kind: Kind) -> usize
 fn check_fields(job: &[u8]) -> Checked
     ensures { λ r. ⌜ r ≡ checkFrom (now (job .entry)) (fieldsFrom (now (job .entry)) 0) start unset 0 ⌝ }
 {
-    let mut at = 0;
+    let mut srca = [false; 128];
+    let mut srcb = [false; 128];
+    let mut dst = [false; 512];
+    let mut registers = [false; 192];
     let mut c = control::start_record();
-    let mut m = start_marks();
     let mut count = 0;
+    let mut at = 0;
     while at < job.len() {
         let f = job::field_at(job, at);
         let kind = f.kind;
-        let verdict = judge_field(c, m, kind);
-        if let Verdict::Refused(rule) = verdict {
-            return Checked::Refused(rule, f.place);
+        if let Kind::Issue { thread, word } = kind {
+            let s = check_issue(c, thread, word, &mut srca, &mut srcb, &dst, &mut registers);
+            let verdict = s.verdict;
+            if let Verdict::Refused(rule) = verdict {
+                return Checked::Refused(rule, f.place);
+            }
+            c = s.control;
+            count += 1;
+        } else {
+            let verdict = judge_field(c, kind, &dst, &registers);
+            if let Verdict::Refused(rule) = verdict {
+                return Checked::Refused(rule, f.place);
+            }
+            mark_field(c, kind, &mut srca, &mut srcb, &mut dst, &mut registers);
+            if moves(kind) {
+                c = field_control(job, c, f.place, kind);
+            }
         }
-        m = field_marks(c, m, kind);
-        c = field_control(job, c, f.place, kind);
-        count += issue_of(kind);
         at = f.next;
     }
     Checked::Passed(count)

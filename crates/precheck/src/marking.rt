@@ -1,7 +1,7 @@
-// Which rows and registers are set: tests of spans, and the marks after a field.
-use crate::Marks;
+// Which rows and registers are set: tests of spans, and the marks that a field makes.
 use crate::banks_of;
 use cells::Span;
+use control::Banks;
 use control::Control;
 use datum::File;
 use job::Kind;
@@ -9,22 +9,14 @@ use rules::Reads;
 use rules::Sets;
 use rules::Unsets;
 ghost use mathlib.Core.Path.{_≡_};
-ghost use mathlib.Core.Bool.{true, false};
+ghost use mathlib.Core.Bool.{Bool, true, false};
+ghost use mathlib.Core.List.{List};
 ghost use lib.ListN.{getD};
 ghost use Rattle.cells.specs.Cells.{over, between, overSpan};
-ghost use Rattle.precheck.specs.Marks.{unset, allSet, readsSet, setSrc, setDst, setRegister, instructionMarks};
-ghost use Rattle.precheck.specs.Fields.{loadedRows, oneRegister, fieldMarks};
-
-pub(crate) fn start_marks() -> Marks
-    ensures { λ r. ⌜ r ≡ unset ⌝ }
-{
-    Marks {
-        srca: [false; 128],
-        srcb: [false; 128],
-        dst: [false; 512],
-        registers: [false; 192],
-    }
-}
+ghost use Rattle.rules.specs.Rows.{bankRow, span};
+ghost use Rattle.precheck.specs.Marks.{marks, allSet, readsSet, setSrc, instructionMarks};
+ghost use Rattle.precheck.specs.Fields.{oneRegister, fieldMarks};
+ghost use Rattle.precheck.specs.Check.{issueOf};
 
 // ---- tests
 
@@ -51,23 +43,25 @@ pub(crate) fn all_set(marks: &[bool], rows: Span) -> bool
 }
 
 // All that an instruction reads is set.
-pub(crate) fn reads_set(m: Marks, reads: Reads) -> bool
-    ensures { λ r. ⌜ r ≡ readsSet m reads ⌝ }
+pub(crate) fn reads_set(
+    reads: Reads,
+    srca: &[bool],
+    srcb: &[bool],
+    dst: &[bool],
+    registers: &[bool],
+) -> bool
+    ensures { λ r. ⌜ r ≡ readsSet (marks (now (srca .entry)) (now (srcb .entry)) (now (dst .entry)) (now (registers .entry))) reads ⌝ }
 {
-    let srca = m.srca;
-    let srcb = m.srcb;
-    let dst = m.dst;
-    let registers = m.registers;
     let a = reads.a;
     let b = reads.b;
     let d = reads.dst;
     let left = reads.left;
     let right = reads.right;
-    all_set(&srca, a)
-        & all_set(&srcb, b)
-        & all_set(&dst, d)
-        & all_set(&registers, left)
-        & all_set(&registers, right)
+    all_set(srca, a)
+        & all_set(srcb, b)
+        & all_set(dst, d)
+        & all_set(registers, left)
+        & all_set(registers, right)
 }
 
 // ---- marks made
@@ -94,104 +88,77 @@ fn mark_span(rows: Span, on: bool, marks: &mut [bool])
     mark(lo, hi, on, marks);
 }
 
-// A load's rows, in the unpackers' bank.
-fn set_src(c: Control, m: Marks, file: File, rows: Span) -> Marks
-    ensures { λ r. ⌜ r ≡ setSrc m file (loadedRows c file rows) ⌝ }
+// A load's rows, in the bank at the unpackers' pointer. The other marks are any.
+fn set_src(banks: Banks, file: File, rows: Span, srca: &mut [bool], srcb: &mut [bool])
+    ensures { λ _. ⌜ ((d r : List Bool) → marks (now (srca .exit)) (now (srcb .exit)) d r
+        ≡ setSrc (marks (now (srca .entry)) (now (srcb .entry)) d r) file (span (bankRow (banks .unpack) (rows .first)) (rows .count))) ⌝ }
 {
-    let banks = banks_of(c, file);
     let lo = banks.unpack as usize * 64 + rows.first as usize;
     let hi = lo + rows.count as usize;
-    let mut out = m;
     match file {
-        File::A => {
-            let mut srca = m.srca;
-            mark(lo, hi, true, &mut srca);
-            out.srca = srca;
-        }
-        File::B => {
-            let mut srcb = m.srcb;
-            mark(lo, hi, true, &mut srcb);
-            out.srcb = srcb;
-        }
+        File::A => mark(lo, hi, true, srca),
+        File::B => mark(lo, hi, true, srcb),
     }
-    out
 }
 
-fn set_dst(m: Marks, rows: Span) -> Marks
-    ensures { λ r. ⌜ r ≡ setDst m rows ⌝ }
+fn set_register(thread: u8, register: u8, registers: &mut [bool])
+    ensures { λ _. ⌜ now (registers .exit) ≡ overSpan (oneRegister thread register) true (now (registers .entry)) ⌝ }
 {
-    let mut out = m;
-    let mut dst = m.dst;
-    mark_span(rows, true, &mut dst);
-    out.dst = dst;
-    out
-}
-
-fn set_register(m: Marks, thread: u8, register: u8) -> Marks
-    ensures { λ r. ⌜ r ≡ setRegister m (oneRegister thread register) ⌝ }
-{
-    let mut out = m;
-    let mut registers = m.registers;
     let lo = thread as usize * 64 + register as usize;
-    mark(lo, lo + 1, true, &mut registers);
-    out.registers = registers;
-    out
+    mark(lo, lo + 1, true, registers);
 }
 
-// Of a Src file: some set, then some unset.
-fn src_marks(set: Span, unset: Span, marks: [bool; 128]) -> [bool; 128]
-    ensures { λ r. ⌜ r ≡ overSpan unset false (overSpan set true marks) ⌝ }
+// An instruction sets what it sets, and its clear unsets. The Dst marks are any.
+pub(crate) fn mark_instruction(
+    sets: Sets,
+    unsets: Unsets,
+    srca: &mut [bool],
+    srcb: &mut [bool],
+    registers: &mut [bool],
+)
+    ensures { λ _. ⌜ ((d : List Bool) → marks (now (srca .exit)) (now (srcb .exit)) d (now (registers .exit))
+        ≡ instructionMarks (marks (now (srca .entry)) (now (srcb .entry)) d (now (registers .entry))) sets unsets) ⌝ }
 {
-    let mut out = marks;
-    mark_span(set, true, &mut out);
-    mark_span(unset, false, &mut out);
-    out
-}
-
-// An instruction sets what it sets, and its clear unsets.
-fn instruction_marks(m: Marks, sets: Sets, unsets: Unsets) -> Marks
-    ensures { λ r. ⌜ r ≡ instructionMarks m sets unsets ⌝ }
-{
-    let mut out = m;
-    let old_a = m.srca;
-    let old_b = m.srcb;
     let set_a = sets.a;
     let set_b = sets.b;
+    let set_registers = sets.registers;
     let unset_a = unsets.a;
     let unset_b = unsets.b;
-    let srca = src_marks(set_a, unset_a, old_a);
-    let srcb = src_marks(set_b, unset_b, old_b);
-    out.srca = srca;
-    out.srcb = srcb;
-    let mut registers = m.registers;
-    let set_registers = sets.registers;
-    mark_span(set_registers, true, &mut registers);
-    out.registers = registers;
-    out
+    mark_span(set_a, true, srca);
+    mark_span(unset_a, false, srca);
+    mark_span(set_b, true, srcb);
+    mark_span(unset_b, false, srcb);
+    mark_span(set_registers, true, registers);
 }
 
-// ---- the marks after a field
-
-pub(crate) fn field_marks(c: Control, m: Marks, kind: Kind) -> Marks
-    ensures { λ r. ⌜ r ≡ fieldMarks c m kind ⌝ }
+// The marks after a field that is no issue field.
+pub(crate) fn mark_field(
+    c: Control,
+    kind: Kind,
+    srca: &mut [bool; 128],
+    srcb: &mut [bool; 128],
+    dst: &mut [bool; 512],
+    registers: &mut [bool; 192],
+)
+    ensures { λ _. ⌜ (issueOf kind ≡ 0 → marks (now (srca .exit)) (now (srcb .exit)) (now (dst .exit)) (now (registers .exit))
+        ≡ fieldMarks c (marks (now (srca .entry)) (now (srcb .entry)) (now (dst .entry)) (now (registers .entry))) kind) ⌝ }
 {
     match kind {
-        Kind::Settings => m,
-        Kind::LoadSrc { file, rows } => set_src(c, m, file, rows),
-        Kind::LoadDst { rows } => set_dst(m, rows),
-        Kind::LoadRegister { thread, register } => set_register(m, thread, register),
-        Kind::HandOver { file: _ } => m,
-        Kind::Issue { thread, word } => {
-            let sets = rules::word_sets(c, thread, word);
-            let unsets = rules::word_unsets(c, word);
-            instruction_marks(m, sets, unsets)
+        Kind::Settings => {}
+        Kind::LoadSrc { file, rows } => {
+            let banks = banks_of(c, file);
+            set_src(banks, file, rows, srca, srcb);
         }
-        Kind::OutputRows { rows: _ } => m,
+        Kind::LoadDst { rows } => mark_span(rows, true, dst),
+        Kind::LoadRegister { thread, register } => set_register(thread, register, registers),
+        Kind::HandOver { file: _ } => {}
+        Kind::Issue { thread: _, word: _ } => {}
+        Kind::OutputRows { rows: _ } => {}
         Kind::OutputRegister {
             thread: _,
             register: _,
-        } => m,
-        Kind::ZeroRows { rows } => set_dst(m, rows),
-        Kind::Wrong => m,
+        } => {}
+        Kind::ZeroRows { rows } => mark_span(rows, true, dst),
+        Kind::Wrong => {}
     }
 }

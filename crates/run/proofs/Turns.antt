@@ -1,5 +1,5 @@
 -- The run's answer in each of its cases, and a turn of its walk over the fields. Assumes nothing.
-use mathlib.Core.Path.{_≡_, sym, ap, _∙_}
+use mathlib.Core.Path.{_≡_, refl, sym, ap, _∙_}
 use mathlib.Core.Bool.{true, false}
 use mathlib.Core.List.{List}
 use Prim.Native.Nat.{ℕ, _+_, _≤_, _<_}
@@ -12,14 +12,18 @@ use Rattle.control.specs.Record.{start}
 use Rattle.rules.specs.declared.Verdict.{Verdict}
 use Rattle.rules.specs.declared.Verdict.the-variants as verdict
 use Rattle.step.specs.State.{State, sized}
+use Rattle.step.specs.Step.{verdictOf, steppedOf, stateOf}
+use Rattle.step.specs.declared.Stepped.{Stepped}
 use Rattle.step.proofs.Sizes.{Sizes, sizes, sized-of}
 use Rattle.step.proofs.Verdicts.{unsized}
 use Rattle.job.specs.Fields.{fieldAt, fieldsFrom}
+use Rattle.job.specs.declared.Kind.{Kind}
+use Rattle.job.specs.declared.Kind.the-variants as kind
 use Rattle.job.specs.declared.Field.{Field}
-use Rattle.job.proofs.Walk.{grows, ends, fields-end, fields-step}
+use Rattle.job.proofs.Walk.{fields-end, fields-step}
 use Rattle.precheck.specs.Fields.{fieldControl, controlAfterField}
 use Rattle.precheck.proofs.Kept.{control-read}
-use Rattle.precheck.proofs.Walk.{issue-most}
+use Rattle.precheck.proofs.Walk.{next-inside, count-on}
 use Rattle.job.proofs.Shaped.{Sound, sound-at}
 use Rattle.precheck.specs.Check.{issueOf, precheckOf}
 use Rattle.precheck.specs.declared.Checked.the-variants as checked
@@ -30,14 +34,6 @@ use Rattle.run.specs.declared.Outcome.the-variants.{Finished, Refused}
 use Rattle.run.proofs.Performs.{performed-sized, refused-unchanged}
 
 -- ---- a turn of the walk
-
--- f is the field there
-module _ (job : List ℕ) (at : ℕ) (f : Field) (h : at < length job) (e : f ≡ fieldAt job at) where
-  pub next-after : at < f .next
-  next-after = rw e (grows job at h)
-
-  pub next-inside : f .next ≤ length job
-  next-inside = rw e (ends job at)
 
 module _ (job : List ℕ) (at : ℕ) (c : Control) (s : State) (n : ℕ) where
   pub execute-end : length job ≤ at → execute job (fieldsFrom job at) c s n ≡ ran (Finished n) s
@@ -54,6 +50,20 @@ module _ (job : List ℕ) (at : ℕ) (c : Control) (s : State) (n : ℕ) where
     pub execute-stop : (r : Refusal) → v ≡ verdict.Refused r → execute job (fieldsFrom job at) c s n ≡ ran (Refused StepRefused (f .place)) s
     unfolding execute
     execute-stop r d = rw (fields-step job at h, ← e, ← p, d)
+
+-- only an issue field steps
+no-step : (c : Control) (s : State) (k : Kind) → issueOf k ≡ 0 → verdict.Done ≡ stepVerdict c k s
+unfolding stepVerdict
+no-step c s kind.Settings z = refl
+no-step c s (kind.LoadSrc file rows) z = refl
+no-step c s (kind.LoadDst rows) z = refl
+no-step c s (kind.LoadRegister t r) z = refl
+no-step c s (kind.HandOver file) z = refl
+no-step c s (kind.Issue t w) z = absurd (omega (arith, z))
+no-step c s (kind.OutputRows rows) z = refl
+no-step c s (kind.OutputRegister t r) z = refl
+no-step c s (kind.ZeroRows rows) z = refl
+no-step c s kind.Wrong z = refl
 
 -- ---- the run's answer
 
@@ -111,17 +121,14 @@ module _ (job : List ℕ) (s₀ : State) (c : Control) (at n : ℕ) (s : State) 
     kept : Sizes s′
     kept = sizes s′ (ap sized q ∙ performed-sized job c (f .place) (f .kind) s (sized-of s (t .size)))
 
-    pub turn-on : v ≡ verdict.Done → (c′ : Control) → c′ ≡ controlAfterField job c (f .place) (f .kind) → (i : ℕ) → i ≡ issueOf (f .kind) → Turn job s₀ c′ (f .next) (n + i) s′
-    turn-on d c′ ce i ie =
-        let g = next-after job at f h e in
-        let m = t .few in
-        let most = issue-most (f .kind) in
-        let cr : c′ ≡ fieldControl job c (f .place) (f .kind) = ce ∙ control-read job c f (rw e (sound-at job at h)) in
+    pub turn-on : v ≡ verdict.Done → {c′ : Control} {n′ : ℕ} → c′ ≡ controlAfterField job c (f .place) (f .kind) → n′ ≡ n + issueOf (f .kind) → Turn job s₀ c′ (f .next) n′ s′
+    turn-on d ce ie =
+        let cr = ce ∙ control-read job c f (rw e (sound-at job at h)) in
         record {
-          acted = (λ j. execute job (fieldsFrom job (f .next)) (cr j) (q j) (n + ie j)) ∙ sym (execute-on job at c s n f v h e p d) ∙ t .acted;
+          acted = (λ j. execute job (fieldsFrom job (f .next)) (cr j) (q j) (ie j)) ∙ sym (execute-on job at c s n f v h e p d) ∙ t .acted;
           size = kept;
           inside = next-inside job at f h e;
-          few = omega arith;
+          few = rw ie (count-on job at f h e n (issueOf (f .kind)) refl (t .few));
         }
 
     -- a refusal leaves the numbers as they came
@@ -130,6 +137,30 @@ module _ (job : List ℕ) (s₀ : State) (c : Control) (at n : ℕ) (s : State) 
     turn-stop z m pe r d =
         let same : s′ ≡ s = q ∙ refused-unchanged job c (f .place) s r (f .kind) (sym p ∙ d) in
         by-fields job s₀ z m pe _ s′ (sym (t .acted) ∙ execute-stop job at c s n f v h e p r d ∙ ap (ran (Refused StepRefused (f .place))) (sym same))
+
+  -- f is an issue field there, r what the single step answers, s′ the numbers after it
+  module _ (f : Field) (g w : ℕ) (r : Stepped) (s′ : State) (h : at < length job) (e : f ≡ fieldAt job at) (k : f .kind ≡ kind.Issue g w) (p : r ≡ steppedOf c g w s) (q : s′ ≡ stateOf c g w s) where
+    stepped : r .verdict ≡ stepVerdict c (f .kind) s
+    unfolding stepVerdict steppedOf
+    stepped = rw (k, p)
+
+    acted : s′ ≡ performed job c (f .place) (f .kind) s
+    unfolding performed
+    acted = rw (k, q)
+
+    after : r .verdict ≡ verdict.Done → r .control ≡ controlAfterField job c (f .place) (f .kind)
+    unfolding steppedOf controlAfterField fieldControl
+    after d = let v : verdictOf c g w s ≡ verdict.Done = sym (ap (λ (x : Stepped). x .verdict) p) ∙ d in rw (k, p, v)
+
+    pub issue-on : r .verdict ≡ verdict.Done → Turn job s₀ (r .control) (f .next) (n + 1) s′
+    issue-on d = turn-on f (r .verdict) s′ h e stepped acted d (after d) (rw k)
+
+    pub issue-stop : Sizes s₀ → (m : ℕ) → precheckOf job ≡ checked.Passed m → (x : Refusal) → r .verdict ≡ verdict.Refused x → Left job s₀ (Refused StepRefused (f .place)) s′
+    issue-stop z m pe x d = turn-stop f (r .verdict) s′ h e stepped acted z m pe x d
+
+  -- f is another field there
+  pub other-on : (f : Field) (s′ : State) → at < length job → f ≡ fieldAt job at → issueOf (f .kind) ≡ 0 → s′ ≡ performed job c (f .place) (f .kind) s → {c′ : Control} → c′ ≡ controlAfterField job c (f .place) (f .kind) → Turn job s₀ c′ (f .next) n s′
+  other-on f s′ h e z q l = turn-on f verdict.Done s′ h e (no-step c s (f .kind) z) q refl l (omega (arith, z))
 
 -- the answer in numbers goes by the answer
 pub answered : (job : List ℕ) (s : State) (o : Outcome) (after : State) → Left job s o after

@@ -3,7 +3,6 @@ use cells::Span;
 use control::Control;
 use datum::File;
 use job::Kind;
-use rules::Verdict;
 ghost use mathlib.Core.Path.{_≡_};
 ghost use mathlib.Core.List.{List};
 ghost use Prim.Native.Nat.{ℕ};
@@ -12,7 +11,8 @@ ghost use Rattle.rules.specs.Rows.{bankRow, register, span};
 ghost use Rattle.step.specs.State.{state};
 ghost use Rattle.job.specs.Values.{registerValue};
 ghost use Rattle.precheck.specs.Fields.{loadedRows};
-ghost use Rattle.run.specs.Perform.{loaded, withSrc, srcOf, performed, stepVerdict};
+ghost use Rattle.precheck.specs.Check.{issueOf};
+ghost use Rattle.run.specs.Perform.{loaded, withSrc, srcOf, performed};
 
 // The rows of a bank get the numbers of the load rows field at `place`; places past the end are passed over.
 fn load_rows(job: &[u8], place: usize, bank: u8, rows: Span, file: &mut [u32])
@@ -60,7 +60,7 @@ fn load_register(job: &[u8], place: usize, thread: u8, r: u8, registers: &mut [u
     registers[i] = job::register_value(job, place);
 }
 
-// What the field at `place` does; only an instruction may refuse, and then nothing changes.
+// What a field at `place` that is no issue field does.
 pub fn perform(
     job: &[u8],
     c: Control,
@@ -70,9 +70,8 @@ pub fn perform(
     srcb: &mut [u32],
     dst: &mut [u32],
     registers: &mut [u32],
-) -> Verdict
-    ensures { λ v. ⌜ (v ≡ stepVerdict c kind (state (now (srca .entry)) (now (srcb .entry)) (now (dst .entry)) (now (registers .entry))))
-        × (state (now (srca .exit)) (now (srcb .exit)) (now (dst .exit)) (now (registers .exit))
+)
+    ensures { λ _. ⌜ (issueOf kind ≡ 0 → state (now (srca .exit)) (now (srcb .exit)) (now (dst .exit)) (now (registers .exit))
         ≡ performed (now (job .entry)) c place kind (state (now (srca .entry)) (now (srcb .entry)) (now (dst .entry)) (now (registers .entry)))) ⌝ }
 {
     match kind {
@@ -87,9 +86,7 @@ pub fn perform(
             registers,
         ),
         Kind::HandOver { file: _ } => {}
-        Kind::Issue { thread, word } => {
-            return step::step(c, thread, word, srca, srcb, dst, registers).verdict;
-        }
+        Kind::Issue { thread: _, word: _ } => {}
         Kind::OutputRows { rows: _ } => {}
         Kind::OutputRegister {
             thread: _,
@@ -98,5 +95,4 @@ pub fn perform(
         Kind::ZeroRows { rows } => cells::fill_rows(rows, 0, dst),
         Kind::Wrong => {}
     }
-    Verdict::Done
 }

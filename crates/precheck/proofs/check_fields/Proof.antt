@@ -1,74 +1,107 @@
 -- `precheck::check_fields` meets its contract: the walk from here on is the walk of the job. Assumes nothing.
-use Rattle.precheck.proofs.Walk.{next-after, next-inside, count-on, check-end, check-stop, check-on}
-use Rattle.precheck.specs.Check.{checkFrom}
-use Rattle.precheck.specs.Marks.{unset}
-use Rattle.job.specs.Fields.{fieldsFrom}
-use Rattle.control.specs.Record.{start}
-use lib.ListN.{length}
+use mathlib.Core.Path.{sym, ap, _∙_}
+use Prim.Native.Nat.{_-_}
 use native.Mathlib.Omega.{arith}
-use Prim.Native.Nat.{_≤_, _-_}
-use mathlib.Core.Path.{_≡_, sym, _∙_}
+use lib.ListN.{length}
 use denote.Ref.{now}
+use Rattle.control.specs.declared.Control.{Control}
+use Rattle.job.specs.Fields.{fieldsFrom}
+use Rattle.precheck.specs.Marks.{unset}
+use Rattle.precheck.specs.Check.{checkFrom}
+use Rattle.precheck.proofs.Walk.{Checking, next-after, no-issue, still, turn-stop, issue-stop, issue-on, other-on, check-end}
 use borrow.Author.Needs.{needs}
 use Rattle.precheck.proofs.check_fields.Statement.{statement}
 use Rattle.precheck.proofs.check_fields.Tie as tie
+use Rattle.control.proofs.start_record.Reads as start-record-reads
+use Rattle.job.proofs.field_at.Reads as field-at-reads
+use Rattle.precheck.proofs.field_control.Reads as field-control-reads
+use Rattle.precheck.proofs.judging.check_issue.Reads as check-issue-reads
+use Rattle.precheck.proofs.judging.judge_field.Reads as judge-field-reads
+use Rattle.precheck.proofs.marking.mark_field.Reads as mark-field-reads
+use Rattle.precheck.proofs.moves.Reads as moves-reads
 
 abbrev Inv-loop : tie.InvT-loop
-Inv-loop job at₀ c₀ m₀ count₀ at c m count = (checkFrom job (fieldsFrom job at) c m count ≡ checkFrom job (fieldsFrom job 0) start unset 0) × (count ≤ at) × (at ≤ length job)
+Inv-loop job srca₀ srcb₀ dst₀ registers₀ c₀ count₀ at₀ srca srcb dst registers c count at = Checking job srca srcb dst registers c count at
 
 abbrev μ-loop : tie.MeasureT-loop
-μ-loop job at₀ c₀ m₀ count₀ at c m count = length job - at
+μ-loop job srca₀ srcb₀ dst₀ registers₀ c₀ count₀ at₀ srca srcb dst registers c count at = length job - at
 
 start-record-requires : tie.Need-start-record-requires Inv-loop μ-loop
 start-record-requires c κs = search needs
 
-start-marks-requires : tie.Need-start-marks-requires Inv-loop μ-loop
-start-marks-requires c κs = search needs
-
 loop-holds : tie.Need-loop-holds Inv-loop μ-loop
-loop-holds c = (rw ((c .start-marks .ensures), (c .before .start-record .ensures)), omega arith, omega arith)
+unfolding unset
+loop-holds c = record { checked = ap (λ (d : Control). checkFrom (now (c .before .before .args .job)) (fieldsFrom (now (c .before .before .args .job)) 0) d unset 0) (c .start-record .ensures); few = omega arith; inside = omega arith }
 
 field-at-requires : tie.Need-field-at-requires Inv-loop μ-loop
 field-at-requires c κs = search needs
 
-judge-field-requires : tie.Need-judge-field-requires Inv-loop μ-loop
-judge-field-requires c κs = search needs
+enum-known-kind : tie.Need-enum-known-kind Inv-loop μ-loop
+enum-known-kind c = search needs
+
+check-issue-requires : tie.Need-check-issue-requires Inv-loop μ-loop
+check-issue-requires c κs = search needs
 
 enum-known-verdict : tie.Need-enum-known-verdict Inv-loop μ-loop
 enum-known-verdict c = search needs
 
 returns : tie.Need-returns Inv-loop μ-loop
-returns c = sym (check-stop _ _ _ _ _ _ _ (c .before .before .before .before .before .loop-test .taken) (c .before .before .before .before .field-at .ensures) (c .before .before .before .judge-field .ensures) _ (c .before .verdict .given .1)) ∙ (c .before .before .before .before .before .before .loop .inv .0)
+returns c = issue-stop _ _ _ _ _ _ _ _ (c .before .before .before .before .before .before .before .before .before .before .before .before .before .loop .inv) _ (c .before .before .before .before .before .before .before .before .before .before .before .before .loop-test .taken) (c .before .before .before .before .before .before .before .before .before .before .before .field-at .ensures) _ _ _ (c .before .before .before .before .before .before .before .before .before .kind .given .1) (c .before .before .before .check-issue .ensures .0) _ (c .before .verdict .given .1)
 
 enum-told : tie.Need-enum-told Inv-loop μ-loop
 enum-told c = search needs
 
-field-marks-requires : tie.Need-field-marks-requires Inv-loop μ-loop
-field-marks-requires c κs = search needs
+add-count : tie.Need-add-count Inv-loop μ-loop
+add-count c = omega (arith, c .before .before .before .before .before .before .before .before .before .before .before .before .before .loop .inv .few, c .before .before .before .before .before .before .before .before .before .before .before .before .loop-test .taken, c .before .before .before .before .before .before .before .before .before .before .before .before .before .before .before .before .good)
+
+judge-field-requires : tie.Need-judge-field-requires Inv-loop μ-loop
+judge-field-requires c κs = search needs
+
+enum-known-verdict-2 : tie.Need-enum-known-verdict-2 Inv-loop μ-loop
+enum-known-verdict-2 c = search needs
+
+returns-2 : tie.Need-returns-2 Inv-loop μ-loop
+returns-2 c = turn-stop _ _ _ _ _ _ _ _ (c .before .before .before .before .before .before .before .before .before .loop .inv) _ (c .before .before .before .before .before .before .before .before .loop-test .taken) (c .before .before .before .before .before .before .before .field-at .ensures) _ (c .before .before .before .judge-field .ensures _ _ (no-issue (c .before .before .before .before .before .before .before .field-at .result .kind) (c .before .before .before .before .before .before .match .keys2))) _ (c .before .verdict2 .given .1)
+
+enum-told-2 : tie.Need-enum-told-2 Inv-loop μ-loop
+enum-told-2 c = search needs
+
+mark-field-requires : tie.Need-mark-field-requires Inv-loop μ-loop
+mark-field-requires c κs = search needs
+
+moves-requires : tie.Need-moves-requires Inv-loop μ-loop
+moves-requires c κs = search needs
 
 field-control-requires : tie.Need-field-control-requires Inv-loop μ-loop
 field-control-requires c κs = search needs
 
-issue-of-requires : tie.Need-issue-of-requires Inv-loop μ-loop
-issue-of-requires c κs = search needs
-
-add-count : tie.Need-add-count Inv-loop μ-loop
-add-count c = let n = count-on _ _ _ (c .before .before .before .before .before .before .before .loop-test .taken) (c .before .before .before .before .before .before .field-at .ensures) _ _ (c .issue-of .ensures) (c .before .before .before .before .before .before .before .before .loop .inv .1) in
-    let l = next-inside _ _ _ (c .before .before .before .before .before .before .before .loop-test .taken) (c .before .before .before .before .before .before .field-at .ensures) in
-    omega (arith, (c .before .before .before .before .before .before .before .before .before .before .before .before .good))
-
 loop-less : tie.Need-loop-less Inv-loop μ-loop
-loop-less c = omega (arith, next-after (now (c .before .before .before .before .before .before .before .before .before .before .before .before .args .job)) (c .before .before .before .before .before .before .before .before .loop .at) (c .before .before .before .before .before .before .field-at .result) (c .before .before .before .before .before .before .before .loop-test .taken) (c .before .before .before .before .before .before .field-at .ensures))
+loop-less c = omega (arith, next-after (now (c .before .before .before .before .before .before .before .before .before .before .before .before .before .before .before .before .args .job)) (c .before .before .before .before .before .before .before .before .before .before .before .before .before .loop .at) (c .before .before .before .before .before .before .before .before .before .before .before .field-at .result) (c .before .before .before .before .before .before .before .before .before .before .before .before .loop-test .taken) (c .before .before .before .before .before .before .before .before .before .before .before .field-at .ensures))
 
 loop-again : tie.Need-loop-again Inv-loop μ-loop
-loop-again c = (
-  rw ((c .before .before .field-marks .ensures), (c .issue-of .ensures)) (sym (check-on _ _ _ _ _ _ _ (c .before .before .before .before .before .before .before .loop-test .taken) (c .before .before .before .before .before .before .field-at .ensures) (c .before .before .before .before .before .judge-field .ensures) _ (c .before .before .before .enum-told .given .1) (c .before .field-control .ensures)) ∙ (c .before .before .before .before .before .before .before .before .loop .inv .0)),
-  count-on _ _ _ (c .before .before .before .before .before .before .before .loop-test .taken) (c .before .before .before .before .before .before .field-at .ensures) _ _ (c .issue-of .ensures) (c .before .before .before .before .before .before .before .before .loop .inv .1),
-  next-inside _ _ _ (c .before .before .before .before .before .before .before .loop-test .taken) (c .before .before .before .before .before .before .field-at .ensures),
-)
+loop-again c =
+    let done = c .before .enum-told .given .1 in
+    let after = c .before .before .before .check-issue .ensures .1 done in
+    issue-on _ _ _ _ _ _ _ _ (c .before .before .before .before .before .before .before .before .before .before .before .before .before .loop .inv) _ (c .before .before .before .before .before .before .before .before .before .before .before .before .loop-test .taken) (c .before .before .before .before .before .before .before .before .before .before .before .field-at .ensures) _ _ _ (c .before .before .before .before .before .before .before .before .before .kind .given .1) (c .before .before .before .check-issue .ensures .0) done (after .0) (after .1)
 
-returns-2 : tie.Need-returns-2 Inv-loop μ-loop
-returns-2 c = sym (check-end _ _ _ _ _ (c .loop-test .left)) ∙ (c .before .loop .inv .0)
+loop-less-2 : tie.Need-loop-less-2 Inv-loop μ-loop
+loop-less-2 c = omega (arith, next-after (now (c .before .before .before .before .before .before .before .before .before .before .before .before .before .before .before .before .before .before .before .args .job)) (c .before .before .before .before .before .before .before .before .before .before .before .before .before .before .before .before .loop .at) (c .before .before .before .before .before .before .before .before .before .before .before .before .before .before .field-at .result) (c .before .before .before .before .before .before .before .before .before .before .before .before .before .before .before .loop-test .taken) (c .before .before .before .before .before .before .before .before .before .before .before .before .before .before .field-at .ensures), c .before .before .before .before .before .before .before .before .before .before .before .before .before .before .before .loop-test .taken)
+
+loop-again-2 : tie.Need-loop-again-2 Inv-loop μ-loop
+loop-again-2 c =
+    let z = no-issue (c .before .before .before .before .before .before .before .before .before .before .before .before .before .before .field-at .result .kind) (c .before .before .before .before .before .before .before .before .before .before .before .before .before .match .keys2) in
+    other-on _ _ _ _ _ _ _ _ (c .before .before .before .before .before .before .before .before .before .before .before .before .before .before .before .before .loop .inv) _ (c .before .before .before .before .before .before .before .before .before .before .before .before .before .before .before .loop-test .taken) (c .before .before .before .before .before .before .before .before .before .before .before .before .before .before .field-at .ensures) z _ (c .before .before .before .before .before .before .before .before .before .before .judge-field .ensures _ _ z) (c .before .before .before .before .before .before .before .before .enum-told2 .given .1) (c .field-control .ensures) (c .before .before .before .mark-field .ensures z)
+
+loop-less-3 : tie.Need-loop-less-3 Inv-loop μ-loop
+loop-less-3 c = omega (arith, next-after (now (c .before .before .before .before .before .before .before .before .before .before .before .before .before .before .before .before .before .before .args .job)) (c .before .before .before .before .before .before .before .before .before .before .before .before .before .before .before .loop .at) (c .before .before .before .before .before .before .before .before .before .before .before .before .before .field-at .result) (c .before .before .before .before .before .before .before .before .before .before .before .before .before .before .loop-test .taken) (c .before .before .before .before .before .before .before .before .before .before .before .before .before .field-at .ensures), c .before .before .before .before .before .before .before .before .before .before .before .before .before .before .loop-test .taken)
+
+loop-again-3 : tie.Need-loop-again-3 Inv-loop μ-loop
+loop-again-3 c =
+    let z = no-issue (c .before .before .before .before .before .before .before .before .before .before .before .before .before .field-at .result .kind) (c .before .before .before .before .before .before .before .before .before .before .before .before .match .keys2) in
+    other-on _ _ _ _ _ _ _ _ (c .before .before .before .before .before .before .before .before .before .before .before .before .before .before .before .loop .inv) _ (c .before .before .before .before .before .before .before .before .before .before .before .before .before .before .loop-test .taken) (c .before .before .before .before .before .before .before .before .before .before .before .before .before .field-at .ensures) z _ (c .before .before .before .before .before .before .before .before .before .judge-field .ensures _ _ z) (c .before .before .before .before .before .before .before .enum-told2 .given .1) (still _ _ _ _ (sym (c .before .moves .ensures) ∙ c .if1 .left)) (c .before .before .mark-field .ensures z)
+
+returns-3 : tie.Need-returns-3 Inv-loop μ-loop
+returns-3 c = sym (check-end _ _ _ _ _ (c .loop-test .left)) ∙ c .before .loop .inv .checked
 
 pub check-fields-spec : {M : Type 1} → statement M
 check-fields-spec =
@@ -77,17 +110,25 @@ check-fields-spec =
     Inv-loop
     μ-loop
     start-record-requires
-    start-marks-requires
     loop-holds
     field-at-requires
-    judge-field-requires
+    enum-known-kind
+    check-issue-requires
     enum-known-verdict
     returns
     enum-told
-    field-marks-requires
-    field-control-requires
-    issue-of-requires
     add-count
+    judge-field-requires
+    enum-known-verdict-2
+    returns-2
+    enum-told-2
+    mark-field-requires
+    moves-requires
+    field-control-requires
     loop-less
     loop-again
-    returns-2)
+    loop-less-2
+    loop-again-2
+    loop-less-3
+    loop-again-3
+    returns-3)

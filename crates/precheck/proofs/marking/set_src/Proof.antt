@@ -3,9 +3,7 @@ use Rattle.precheck.specs.Marks.{setSrc}
 use borrow.Author.Needs.{needs}
 use Rattle.precheck.proofs.marking.set_src.Statement.{statement}
 use Rattle.precheck.proofs.marking.set_src.Tie as tie
-
-banks-of-requires : tie.Need-banks-of-requires
-banks-of-requires c κs = search needs
+use Rattle.precheck.proofs.marking.mark.Reads as mark-reads
 
 cast-lo : tie.Need-cast-lo
 cast-lo c = search needs
@@ -28,34 +26,33 @@ add-hi c = search needs
 enum-told : tie.Need-enum-told
 enum-told c = search needs
 
-slice-aggregate-mark : tie.Need-slice-aggregate-mark
-slice-aggregate-mark c = search needs
-
 mark-requires : tie.Need-mark-requires
 mark-requires c κs = search needs
 
 enum-told-2 : tie.Need-enum-told-2
 enum-told-2 c = search needs
 
-slice-aggregate-mark-2 : tie.Need-slice-aggregate-mark-2
-slice-aggregate-mark-2 c = search needs
-
 mark-requires-2 : tie.Need-mark-requires-2
 mark-requires-2 c κs = search needs
 
+same-length : tie.Need-same-length
+same-length c = search needs
+
 returns : tie.Need-returns
 unfolding setSrc
-returns c = simp ((c .before .mark .ensures), (c .before .before .before .before .before .before .before .before .before .banks-of .ensures), (c .before .before .before .before .enum-told .given .1))
+returns c = λ d r. simp (c .before .before .mark .ensures, c .before .before .before .before .enum-told .given .1)
+
+same-length-2 : tie.Need-same-length-2
+same-length-2 c = search needs
 
 returns-2 : tie.Need-returns-2
 unfolding setSrc
-returns-2 c = simp ((c .before .mark2 .ensures), (c .before .before .before .before .before .before .before .before .before .banks-of .ensures), (c .before .before .before .before .enum-told2 .given .1))
+returns-2 c = λ d r. simp (c .before .before .mark2 .ensures, c .before .before .before .before .enum-told2 .given .1)
 
 pub set-src-spec : {M : Type 1} → statement M
 set-src-spec =
     tie.close
     (tie.spec
-    banks-of-requires
     cast-lo
     mul-lo
     cast-lo-2
@@ -63,10 +60,10 @@ set-src-spec =
     cast-hi
     add-hi
     enum-told
-    slice-aggregate-mark
     mark-requires
     enum-told-2
-    slice-aggregate-mark-2
     mark-requires-2
+    same-length
     returns
+    same-length-2
     returns-2)
