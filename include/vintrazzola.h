@@ -1,18 +1,18 @@
-/* Vintrazzola's C interface: the pre-check and the job run of the proved emulator.
+/* Vintrazzola's C interface: the pre-check, the job run and the single step of the proved emulator.
 
    Link target/staticlib/libcapi.a, which `rt staticlib capi` writes once the crate is proved, for x86-64 Linux.
 
    Every function is total: it takes any bytes and any lengths, never traps and always ends. A caller owes only what C
-   always asks: each pointer is good for its length, the four files do not overlap each other or the job, and no
-   pointer is null, also where the length is 0. Nothing is kept between calls, so threads may call at once on files of
-   their own.
+   always asks: each pointer is good for its length, the four files do not overlap each other, the job or the record,
+   and no pointer is null, also where the length is 0. Nothing is kept between calls, so threads may call at once on
+   files and records of their own.
 
    The answer is one number.
-     Below 2^63: the job finished (the run) or passed (the pre-check), and the number is the count of its issue fields.
+     Below 2^63: the job finished (the run) or passed (the pre-check), and the number is the count of its issue fields;
+     of a step it is 0: done.
      Else it was refused: 2^63 + number * 2^32 + place. The number is 1 to 10, as the README's table says; the place is
      the byte offset of the field's tag, or the job's length where no output stands, and 0 for a wrong length of a file.
-
-   The single step is not part of this interface yet. */
+     A step is refused with 1 to 7 or 9, always at place 0. */
 
 #ifndef VINTRAZZOLA_H
 #define VINTRAZZOLA_H
@@ -24,7 +24,8 @@
 extern "C" {
 #endif
 
-/* The lengths of the four files, counted in numbers of 32 bits. With another length the run answers 9 at 0. */
+/* The lengths of the four files, counted in numbers of 32 bits. With another length the run and the step
+   answer 9 at 0. */
 #define VINTRAZZOLA_SRCA 2048     /* number of bank, row, column: (bank * 64 + row) * 16 + column */
 #define VINTRAZZOLA_SRCB 2048     /* the same */
 #define VINTRAZZOLA_DST 8192      /* row * 16 + column */
@@ -39,6 +40,40 @@ uint64_t vintrazzola_run(const uint8_t *job, size_t job_length,
                          uint32_t *srcb, size_t srcb_length,
                          uint32_t *dst, size_t dst_length,
                          uint32_t *registers, size_t registers_length);
+
+/* The control record of a single step: 332 numbers. The record at the start is all 0.
+
+   A flag is 0 or 1. Counters and carries are 0..63 for SrcA and SrcB and 0..1023 for Dst, FidelityPhase 0..3, pointers
+   0 or 1, the last SrcA row 0, 16, 32 or 48; settings and slots are as a job's settings field may have them.
+
+   0..4    SrcA format, Fp32 (flag), INT8 (flag), FP16A force (flag), DEST_REGW_BASE
+   5..8    SrcA's banks: matrix unit's pointer, unpackers' pointer, the matrix unit owns bank 0 (flag), bank 1 (flag)
+   9..12   SrcB's banks, the same
+   13      the last SrcA row
+   then thread t from VINTRAZZOLA_THREAD(t) on:
+   0..9    Dst, Dst_Cr, SrcA, SrcA_Cr, SrcB, SrcB_Cr, FidelityPhase, ExtraAddrModBit (flag), math offset, fidelity base
+   and its slot s from VINTRAZZOLA_SLOT(t, s) on:
+   0..2    SrcA step, clear (flag), carry (flag)
+   3..5    SrcB step, clear (flag), carry (flag)
+   6..9    Dst step, clear (flag), carry (flag), copy (flag)
+   10..11  fidelity step, clear (flag) */
+#define VINTRAZZOLA_RECORD 332
+#define VINTRAZZOLA_SETTINGS 0
+#define VINTRAZZOLA_BANKS_A 5
+#define VINTRAZZOLA_BANKS_B 9
+#define VINTRAZZOLA_LAST_ROW 13
+#define VINTRAZZOLA_THREAD(t) (14 + 106 * (t))
+#define VINTRAZZOLA_SLOT(t, s) (VINTRAZZOLA_THREAD(t) + 10 + 12 * (s))
+
+/* One instruction of a thread 0..2 on the record and the four files. Done, the answer is 0, and record and files hold
+   what the instruction leaves, so that the next step can go on with them. Refused, every number is as it came: 9 for a
+   wrong length of a file, before all else; 1 for a record that has another length or a number out of range, or for
+   another thread; else the lowest of 2 to 7 that the word meets. */
+uint64_t vintrazzola_step(uint32_t *record, size_t record_length, uint32_t thread, uint32_t word,
+                          uint32_t *srca, size_t srca_length,
+                          uint32_t *srcb, size_t srcb_length,
+                          uint32_t *dst, size_t dst_length,
+                          uint32_t *registers, size_t registers_length);
 
 /* The parts of an answer. */
 static inline int vintrazzola_refused(uint64_t answer) { return (int)(answer >> 63); }

@@ -1,2 +1,4 @@
--- That no packed answer loses anything.
+-- That no packed answer and no record loses anything.
+mod Steps
 pub mod Unpacked
+pub mod Chained

@@ -1,11 +1,11 @@
--- Whatever the job and the lent numbers, a caller gets the very answer back out of the packed number: `precheck-unpacked`, `run-unpacked`.
--- For this, a place and a count are at most 8,192. Assumes nothing.
+-- Whatever the job, the record and the lent numbers, a caller gets the very answer back out of the packed number: `precheck-unpacked`,
+-- `run-unpacked`, `step-unpacked`. For this, a place and a count are at most 8,192. Assumes nothing.
 use mathlib.Core.Path.{_≡_, refl}
 use mathlib.Core.Bool.{true}
 use mathlib.Core.List.{List, [], _∷_}
 use Prim.Native.Nat.{ℕ, zero, suc, _+_, _*_, _/_, _%_, _≤_}
 use native.Mathlib.Omega.{arith}
-use borrow.Author.Tests.{leb-true, ltb-true, ltb-false, lt-ltb, le-ltb}
+use borrow.Author.Tests.{leb-true, ltb-true, ltb-false, lt-ltb, le-ltb, ne-eqb}
 use lib.Dec.{leb, ltb, eqb}
 use lib.ListN.{length}
 use Rattle.cells.proofs.Cells.{split}
@@ -14,10 +14,11 @@ use Rattle.word.specs.declared.Refusal.{Refusal}
 use Rattle.word.specs.declared.Refusal.the-variants as refusal
 use Rattle.control.specs.declared.Control.{Control}
 use Rattle.control.specs.Record.{start}
-use Rattle.rules.specs.Rules.{lowest}
+use Rattle.rules.specs.Rules.{lowest, verdictAnswer}
 use Rattle.rules.specs.declared.Verdict.{Verdict}
 use Rattle.rules.specs.declared.Verdict.the-variants as verdict
 use Rattle.step.specs.State.{State, sized}
+use Rattle.step.specs.Step.{steppedOf, stepAnswer}
 use Rattle.job.specs.Fields.{fieldAt, fieldsFrom}
 use Rattle.job.specs.Shape.{classOf, stageAfter, shapeFrom, shapeOf}
 use Rattle.job.specs.declared.Field.{Field}
@@ -28,14 +29,14 @@ use Rattle.job.proofs.Shaped.{shaped}
 use Rattle.precheck.specs.Marks.{unset}
 use Rattle.precheck.specs.Fields.{fieldRules}
 use Rattle.precheck.specs.Check.{issueOf, unlessBroken, checkFrom, precheckOf, checkedAnswer, precheckAnswer}
-use Rattle.precheck.specs.declared.Marks.{Marks}
+use Rattle.precheck.specs.Marks.{Marks}
 use Rattle.precheck.specs.declared.Checked.{Checked}
 use Rattle.precheck.specs.declared.Checked.the-variants as checked
 use Rattle.precheck.proofs.Walk.{issue-most, precheck-right, precheck-wrong, precheck-passed}
 use Rattle.run.specs.Perform.{stepVerdict}
 use Rattle.run.specs.Run.{Ran, unlessRefused, execute, runOf, outcomeAnswer, runAnswer}
 use Rattle.run.proofs.Turns.{run-unsized, run-refused, run-passed}
-use Rattle.capi.specs.Packed.{packed, unpacked}
+use Rattle.capi.specs.Packed.{packed, unpackedRefusal, unpacked, unpackedStep}
 
 -- ---- small answers
 
@@ -57,15 +58,22 @@ number-small refusal.DstRow = omega arith
 number-small refusal.UnsetRead = omega arith
 number-small refusal.StepRefused = omega arith
 
+-- a refusal, and that it is taken for one
+refusal-unpacks : (number place : ℕ) → number ≤ 10 → place ≤ 8192
+    → (unpackedRefusal (packed (refused number place)) ≡ refused number place) × (9223372036854775808 ≤ packed (refused number place))
+refusal-unpacks number place i j =
+    let x = 9223372036854775808 + number * 4294967296 + place % 4294967296 in
+    let p : x % 4294967296 ≡ place = omega arith in
+    let q : x / 4294967296 ≡ 2147483648 + number = omega arith in
+    let n : x / 4294967296 % 2147483648 ≡ number = rw q (omega arith) in
+    (rw (p, n), omega arith)
+
 unpacks : (a : Answer) → Small a → unpacked (packed a) ≡ a
 unpacks done s = absurd s
 unpacks (finished n) s = rw (lt-ltb n 9223372036854775808 (omega arith))
 unpacks (refused number place) s =
-    let x = 9223372036854775808 + number * 4294967296 + place % 4294967296 in
-    let p : x % 4294967296 ≡ place = omega (arith, s .1) in
-    let q : x / 4294967296 ≡ 2147483648 + number = omega (arith, s .1) in
-    let n : x / 4294967296 % 2147483648 ≡ number = rw q (omega (arith, s .0)) in
-    rw (le-ltb x 9223372036854775808 (omega arith), p, n)
+    let u = refusal-unpacks number place (s .0) (s .1) in
+    rw (le-ltb (packed (refused number place)) 9223372036854775808 (u .1)) (u .0)
 
 -- ---- the fields of a short job
 
@@ -153,3 +161,13 @@ precheck-unpacked job = unpacks (precheckAnswer job) (precheck-small job)
 
 pub run-unpacked : (job : List ℕ) (s : State) → unpacked (packed (runAnswer job s)) ≡ runAnswer job s
 run-unpacked job s = unpacks (runAnswer job s) (run-small job s)
+
+pub step-unpacked : (c : Control) (t w : ℕ) (s : State) → unpackedStep (packed (stepAnswer c t w s)) ≡ stepAnswer c t w s
+unfolding stepAnswer
+step-unpacked c t w s = go (steppedOf c t w s .verdict)
+  where
+    go : (v : Verdict) → unpackedStep (packed (verdictAnswer v)) ≡ verdictAnswer v
+    go verdict.Done = refl
+    go (verdict.Refused r) =
+        let u = refusal-unpacks (numberOf r) 0 (number-small r) (omega arith) in
+        rw (ne-eqb (packed (refused (numberOf r) 0)) 0 (λ e. omega (arith, u .1))) (u .0)
