@@ -21,10 +21,12 @@ use Rattle.job.specs.declared.Shape.{Shape}
 use Rattle.job.specs.declared.Shape.the-variants.{Right, WrongAt}
 use Rattle.job.proofs.Shaped.{sound}
 use Rattle.precheck.specs.Marks.{unset}
-use Rattle.precheck.specs.Check.{unlessWrong, checkFrom, precheckOf}
+use Rattle.precheck.specs.Check.{precheckOf}
 use Rattle.precheck.specs.declared.Checked.{Checked}
 use Rattle.precheck.specs.declared.Checked.the-variants as checked
-use Rattle.run.specs.Run.{Ran, ran, execute, runOf}
+use Rattle.precheck.proofs.Walk.{precheck-passed, precheck-right, precheck-wrong}
+use Rattle.run.specs.Run.{Ran, ran, runOf}
+use Rattle.run.proofs.Turns.{run-passed, run-refused, run-unsized}
 use Rattle.run.specs.declared.Outcome.the-variants.{Finished, Refused}
 use Rattle.lines.specs.Lines.{linesOf}
 use Rattle.demand.specs.Breaks.{FirstBroken, issueFields}
@@ -59,54 +61,21 @@ start-agrees d e p q =
 -- ---- the answer of the pre-check, and that of the run by it
 
 module _ (job : List ℕ) where
-  abbrev walked : Checked
-  walked = checkFrom job (fieldsFrom job 0) start unset 0
-
-  -- a job that passes: its shape is right, and the walk passes
-  passed : (n : ℕ) → precheckOf job ≡ checked.Passed n → (shapeOf job ≡ Right) × (walked ≡ checked.Passed n)
-  unfolding precheckOf
-  passed n e = go (shapeOf job) walked e
-    where
-      go : (w : Shape) (x : Checked) → unlessWrong w x ≡ checked.Passed n → (w ≡ Right) × (x ≡ checked.Passed n)
-      go Right x e = (refl, e)
-      go (WrongAt p) x e = absurd (let z : _≡_ {A = ℕ} 0 1 = cc in omega arith)
-
-  -- a shape that is right leaves it to the walk
-  by-walk : shapeOf job ≡ Right → precheckOf job ≡ walked
-  unfolding precheckOf
-  by-walk e = rw e
-
-  by-shape : (p : ℕ) → shapeOf job ≡ WrongAt p → precheckOf job ≡ checked.Refused refusal.Shape p
-  unfolding precheckOf
-  by-shape p e = rw e
-
-  run-passed : (n : ℕ) → precheckOf job ≡ checked.Passed n → (s : State) → sized s ≡ true → runOf job s ≡ execute job (fieldsFrom job 0) start s 0
-  unfolding runOf
-  run-passed n e s size = rw (size, e)
-
-  run-refused : (r : Refusal) (p : ℕ) → precheckOf job ≡ checked.Refused r p → (s : State) → sized s ≡ true → runOf job s ≡ ran (Refused r p) s
-  unfolding runOf
-  run-refused r p e s size = rw (size, e)
-
-  run-unsized : (s : State) → sized s ≡ false → runOf job s ≡ ran (Refused refusal.StateLength 0) s
-  unfolding runOf
-  run-unsized s size = rw size
-
   -- a job that passes, over two states
   both-end : (n : ℕ) → precheckOf job ≡ checked.Passed n → (s t : State) → sized s ≡ true → sized t ≡ true
       → Ended (fieldsFrom job 0) unset 0 (runOf job s) (runOf job t)
   both-end n e s t p q =
-      rw (run-passed n e s p, run-passed n e t q)
-      (ended job (fieldsFrom job 0) start unset s t 0 n (sound job 0) start-kept (passed n e .1) (start-agrees s t p q))
+      rw (run-passed job s p n e, run-passed job t q n e)
+      (ended job (fieldsFrom job 0) start unset s t 0 n (sound job 0) start-kept (precheck-passed job n e .1) (start-agrees s t p q))
 
   found : shapeOf job ≡ Right → (r : Refusal) (p : ℕ) → precheckOf job ≡ checked.Refused r p → FirstBroken job start unset (fieldsFrom job 0) (numberOf r) p
-  found w r p e = first-breaks job (fieldsFrom job 0) start unset 0 r p (sym (by-walk w) ∙ e) .0
+  found w r p e = first-breaks job (fieldsFrom job 0) start unset 0 r p (sym (precheck-right job w) ∙ e) .0
 
   passes : shapeOf job ≡ Right → Unbroken job → precheckOf job ≡ checked.Passed (issueFields (fieldsFrom job 0))
   passes w h = go (precheckOf job) refl
     where
       go : (x : Checked) → precheckOf job ≡ x → x ≡ checked.Passed (issueFields (fieldsFrom job 0))
-      go (checked.Passed n) e = ap checked.Passed (counted job (fieldsFrom job 0) start unset 0 n (passed n e .1) ∙ zero-add _)
+      go (checked.Passed n) e = ap checked.Passed (counted job (fieldsFrom job 0) start unset 0 n (precheck-passed job n e .1) ∙ zero-add _)
       go (checked.Refused r p) e = let b = found w r p e in absurd (false≢true (sym (h (b .index) (numberOf r)) ∙ b .breaking))
 
   finishes : (n : ℕ) → precheckOf job ≡ checked.Passed n → (s : State) → sized s ≡ true → runOf job s .outcome ≡ Finished (issueFields (fieldsFrom job 0))
@@ -121,24 +90,24 @@ module _ (job : List ℕ) where
   tabled r p e = go (shapeOf job) refl
     where
       go : (w : Shape) → shapeOf job ≡ w → numberOf r ≤ 8
-      go Right w = omega (arith, first-breaks job (fieldsFrom job 0) start unset 0 r p (sym (by-walk w) ∙ e) .1)
+      go Right w = omega (arith, first-breaks job (fieldsFrom job 0) start unset 0 r p (sym (precheck-right job w) ∙ e) .1)
       go (WrongAt q) w =
-          let x = sym (by-shape q w) ∙ e in
+          let x = sym (precheck-wrong job q w) ∙ e in
           let y : refusal.Shape ≡ r = cc in
           omega (arith, ap numberOf y)
 
   pub demand3 : Demand3 job
   demand3 =
       record {
-        right = λ n e. passed n e .0;
-        unbroken = λ n e. none-breaks job (fieldsFrom job 0) start unset 0 n (passed n e .1);
+        right = λ n e. precheck-passed job n e .0;
+        unbroken = λ n e. none-breaks job (fieldsFrom job 0) start unset 0 n (precheck-passed job n e .1);
         passes = passes;
         finishes = finishes;
         prints = prints;
-        misshapen = by-shape;
+        misshapen = precheck-wrong job;
         found = found;
         named = tabled;
-        refuses = run-refused;
+        refuses = λ r p e s size. run-refused job s size r p e;
         values = λ other o. values-same job other (beforeWrong (shapeOf job)) o;
       }
 
@@ -157,13 +126,13 @@ module _ (job : List ℕ) where
     refused : (r : Refusal) (p : ℕ) → runOf job s .outcome ≡ Refused r p → (runOf job s .state ≡ s) × (numberOf r ≤ 9)
     refused r p o =
         split (sized s) (λ size. go size (precheckOf job) refl)
-        (λ size. told refusal.StateLength 0 (run-unsized s size) (omega arith) r p o)
+        (λ size. told refusal.StateLength 0 (run-unsized job s size) (omega arith) r p o)
       where
         go : sized s ≡ true → (v : Checked) → precheckOf job ≡ v → (runOf job s .state ≡ s) × (numberOf r ≤ 9)
         go size (checked.Passed n) w =
             let y : Finished (issueFields (fieldsFrom job 0)) ≡ Refused r p = sym (finishes n w s size) ∙ o in
             absurd (let z : _≡_ {A = ℕ} 0 1 = cc in omega arith)
-        go size (checked.Refused a b) w = told a b (run-refused a b w s size) (omega (arith, tabled a b w)) r p o
+        go size (checked.Refused a b) w = told a b (run-refused job s size a b w) (omega (arith, tabled a b w)) r p o
 
     pub demand1 : Demand1 job s
-    demand1 = record { unsized = run-unsized s; kept = λ r p o. refused r p o .0; tabled = λ r p o. refused r p o .1 }
+    demand1 = record { unsized = run-unsized job s; kept = λ r p o. refused r p o .0; tabled = λ r p o. refused r p o .1 }

@@ -12,7 +12,7 @@ use Rattle.control.specs.Record.{start}
 use Rattle.rules.specs.Rules.{lowest}
 use Rattle.rules.specs.declared.Verdict.{Verdict}
 use Rattle.rules.specs.declared.Verdict.the-variants as verdict
-use Rattle.job.specs.Fields.{fieldAt, fieldsFrom, EachField}
+use Rattle.job.specs.Fields.{fieldAt, fieldsFrom}
 use Rattle.job.specs.Shape.{shapeOf}
 use Rattle.job.specs.declared.Shape.{Shape}
 use Rattle.job.specs.declared.Shape.the-variants as shape
@@ -109,7 +109,7 @@ pub record Checking (job : List ℕ) (a b d r : List Bool) (c : Control) (n at :
   pub few : n ≤ at
   pub inside : at ≤ length job
 
--- a field that is none of the other kinds' tags
+-- a field whose kind is any other than an issue field's
 pub no-issue : (k : Kind) → OneOf (0 ∷ 1 ∷ 2 ∷ 3 ∷ 4 ∷ 6 ∷ 7 ∷ 8 ∷ 9 ∷ []) (tagOf the-type k) → issueOf k ≡ 0
 no-issue kind.Settings o = refl
 no-issue (kind.LoadSrc file rows) o = refl

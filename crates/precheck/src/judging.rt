@@ -8,6 +8,7 @@ use control::Control;
 use datum::File;
 use job::Kind;
 use rules::Verdict;
+use rules::broken::refused_if;
 use word::Read;
 use word::Refusal;
 ghost use mathlib.Core.Path.{_≡_};
@@ -21,15 +22,6 @@ ghost use Rattle.rules.specs.After.{controlAfter};
 ghost use Rattle.precheck.specs.Marks.{marks, allSet};
 ghost use Rattle.precheck.specs.Fields.{banksOf, oneRegister, fieldRules, fieldMarks};
 ghost use Rattle.precheck.specs.Check.{issueOf};
-
-fn refused_if(broken: bool, rule: Refusal) -> Verdict
-    ensures { λ r. ⌜ r ≡ refusedIf broken rule ⌝ }
-{
-    if broken {
-        return Verdict::Refused(rule);
-    }
-    Verdict::Done
-}
 
 // The bank at the unpackers' pointer must be theirs.
 fn judge_bank(c: Control, file: File) -> Verdict

@@ -18,7 +18,7 @@ ghost use Rattle.control.specs.Change.{handOver};
 ghost use Rattle.job.specs.Fields.{fieldsFrom};
 ghost use Rattle.precheck.specs.Marks.{unset};
 ghost use Rattle.precheck.specs.Fields.{banksOf, withFile, settledAt, controlAfterField, movesControl};
-ghost use Rattle.precheck.specs.Check.{issueOf, checkFrom, precheckOf, checkedAnswer, precheckAnswer};
+ghost use Rattle.precheck.specs.Check.{checkFrom, precheckOf, checkedAnswer, precheckAnswer};
 
 // Passed with the count of issue fields, or the refusal and its place.
 pub enum Checked {
@@ -114,30 +114,6 @@ pub fn moves(kind: Kind) -> bool
 }
 
 // ---- the walk
-
-// 1 for an issue field.
-pub fn issue_of(kind: Kind) -> usize
-    ensures { λ r. ⌜ r ≡ issueOf kind ⌝ }
-{
-    match kind {
-        Kind::Settings => 0,
-        Kind::LoadSrc { file: _, rows: _ } => 0,
-        Kind::LoadDst { rows: _ } => 0,
-        Kind::LoadRegister {
-            thread: _,
-            register: _,
-        } => 0,
-        Kind::HandOver { file: _ } => 0,
-        Kind::Issue { thread: _, word: _ } => 1,
-        Kind::OutputRows { rows: _ } => 0,
-        Kind::OutputRegister {
-            thread: _,
-            register: _,
-        } => 0,
-        Kind::ZeroRows { rows: _ } => 0,
-        Kind::Wrong => 0,
-    }
-}
 
 // The first field that breaks a rule, or the count.
 fn check_fields(job: &[u8]) -> Checked

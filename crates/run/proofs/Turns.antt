@@ -24,7 +24,7 @@ use Rattle.job.proofs.Walk.{fields-end, fields-step}
 use Rattle.precheck.specs.Fields.{fieldControl, controlAfterField}
 use Rattle.precheck.proofs.Kept.{control-read}
 use Rattle.precheck.proofs.Walk.{next-inside, count-on}
-use Rattle.job.proofs.Shaped.{Sound, sound-at}
+use Rattle.job.proofs.Shaped.{sound-at}
 use Rattle.precheck.specs.Check.{issueOf, precheckOf}
 use Rattle.precheck.specs.declared.Checked.the-variants as checked
 use Rattle.run.specs.Perform.{performed, stepVerdict}

@@ -12,13 +12,6 @@ use Rattle.precheck.proofs.Walk.{Checking, next-after, no-issue, still,
 use borrow.Author.Needs.{needs}
 use Rattle.precheck.proofs.check_fields.Statement.{statement}
 use Rattle.precheck.proofs.check_fields.Tie as tie
-use Rattle.control.proofs.start_record.Reads as start-record-reads
-use Rattle.job.proofs.field_at.Reads as field-at-reads
-use Rattle.precheck.proofs.field_control.Reads as field-control-reads
-use Rattle.precheck.proofs.judging.check_issue.Reads as check-issue-reads
-use Rattle.precheck.proofs.judging.judge_field.Reads as judge-field-reads
-use Rattle.precheck.proofs.marking.mark_field.Reads as mark-field-reads
-use Rattle.precheck.proofs.moves.Reads as moves-reads
 
 abbrev Inv-loop : tie.InvT-loop
 Inv-loop job srca₀ srcb₀ dst₀ registers₀ c₀ count₀ at₀ srca srcb dst registers c count at = Checking job srca srcb dst registers c count at

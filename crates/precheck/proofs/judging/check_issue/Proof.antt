@@ -11,16 +11,6 @@ use Rattle.precheck.proofs.Judged.{never, unread, by-rules, by-reads, m
 use borrow.Author.Needs.{needs}
 use Rattle.precheck.proofs.judging.check_issue.Statement.{statement}
 use Rattle.precheck.proofs.judging.check_issue.Tie as tie
-use Rattle.precheck.proofs.judging.issue_refused.Reads as issue-refused-reads
-use Rattle.precheck.proofs.marking.mark_instruction.Reads as mark-instruction-reads
-use Rattle.precheck.proofs.marking.reads_set.Reads as reads-set-reads
-use Rattle.rules.proofs.access.fields_read.Reads as fields-read-reads
-use Rattle.rules.proofs.access.fields_set.Reads as fields-set-reads
-use Rattle.rules.proofs.access.fields_unset.Reads as fields-unset-reads
-use Rattle.rules.proofs.after.fields_after.Reads as fields-after-reads
-use Rattle.rules.proofs.broken.judge_fields.Reads as judge-fields-reads
-use Rattle.rules.proofs.verdict_of.Reads as verdict-of-reads
-use Rattle.word.proofs.read_word.Reads as read-word-reads
 
 abbrev verdict-in : Issued → Verdict
 verdict-in i = i .verdict

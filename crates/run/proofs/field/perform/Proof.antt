@@ -10,10 +10,6 @@ use Rattle.run.proofs.Performs.{first-bank}
 use borrow.Author.Needs.{needs}
 use Rattle.run.proofs.field.perform.Statement.{statement}
 use Rattle.run.proofs.field.perform.Tie as tie
-use Rattle.cells.proofs.fill_rows.Reads as fill-rows-reads
-use Rattle.run.proofs.field.load_register.Reads as load-register-reads
-use Rattle.run.proofs.field.load_rows.Reads as load-rows-reads
-use Rattle.run.proofs.field.load_src.Reads as load-src-reads
 
 enum-told : tie.Need-enum-told
 enum-told c = search needs
