@@ -165,8 +165,9 @@ fn row(name: &str, job: &[u8], ours: f64, others: &[Option<f64>]) {
     println!();
 }
 
-/// Our run against the second program's and, for multiplies, the tuned multiply alone.
-fn measure_run(name: &str, job: &[u8]) -> f64 {
+/// Our run against the second program's; for multiplies also against its run with the tuned multiply, and against the tuned
+/// multiplies with all else left out.
+fn measure_run(name: &str, job: &[u8]) {
     let finished = same(name, job);
     let products = products(job);
     let [mut a, mut b, mut c, mut d] = [(); 4].map(|()| finished.clone());
@@ -174,9 +175,8 @@ fn measure_run(name: &str, job: &[u8]) -> f64 {
     for p in &products {
         tuned::multiply(p, &c.srca, &c.srcb, &mut c.dst);
     }
-    let tuned_right = c.dst == finished.dst
-        && tuned_run(job, &mut d) == engine::precheck(job)
-        && d == finished;
+    let tuned_right =
+        c.dst == finished.dst && tuned_run(job, &mut d) == engine::precheck(job) && d == finished;
     let mut contenders: Vec<Box<dyn FnMut()>> = vec![
         Box::new(|| {
             black_box(proved_run(black_box(job), &mut a));
@@ -198,8 +198,12 @@ fn measure_run(name: &str, job: &[u8]) -> f64 {
         }));
     }
     let t = times(&mut contenders);
-    row(name, job, t[0], &[Some(t[1]), t.get(2).copied(), t.get(3).copied()]);
-    t[0]
+    row(
+        name,
+        job,
+        t[0],
+        &[Some(t[1]), t.get(2).copied(), t.get(3).copied()],
+    );
 }
 
 fn measure_precheck(name: &str, job: &[u8]) {
@@ -215,9 +219,9 @@ fn measure_precheck(name: &str, job: &[u8]) {
     row(name, job, t[0], &[Some(t[1])]);
 }
 
-type Sized = fn(&mut Rng, usize) -> Vec<u8>;
+type Maker = fn(&mut Rng, usize) -> Vec<u8>;
 
-fn growth(name: &str, unit: &str, make: Sized, sizes: [usize; 5]) {
+fn growth(name: &str, unit: &str, make: Maker, sizes: [usize; 5]) {
     let mut before: Option<(usize, f64)> = None;
     for size in sizes {
         let job = make(&mut Rng(1), size);
@@ -243,11 +247,23 @@ fn main() -> ExitCode {
         return ExitCode::from(2);
     };
     let named: [(&str, Vec<u8>); 5] = [
-        ("multiply-heavy: 1,000 MVMULs, cleared Src", jobs::cleared_multiplies(1000)),
-        ("multiply-heavy: 800 MVMULs, loaded Src", jobs::loaded_multiplies(&mut Rng(1), 800)),
-        ("scalar-heavy: 980 instructions", jobs::scalars(&mut Rng(1), 980)),
+        (
+            "multiply-heavy: 1,000 MVMULs, cleared Src",
+            jobs::cleared_multiplies(1000),
+        ),
+        (
+            "multiply-heavy: 800 MVMULs, loaded Src",
+            jobs::loaded_multiplies(&mut Rng(1), 800),
+        ),
+        (
+            "scalar-heavy: 980 instructions",
+            jobs::scalars(&mut Rng(1), 980),
+        ),
         ("load-heavy: 124 rows", jobs::row_loads(&mut Rng(1), 124)),
-        ("load-heavy: 890 registers", jobs::register_loads(&mut Rng(1), 890)),
+        (
+            "load-heavy: 890 registers",
+            jobs::register_loads(&mut Rng(1), 890),
+        ),
     ];
     println!("## The job run, in microseconds\n");
     println!("| Job | Bytes | Proved | Second program | Ratio | Tuned | Ratio | Its multiplies alone | Ratio |");
@@ -265,16 +281,35 @@ fn main() -> ExitCode {
     println!("| Job | Size | Bytes | Time | More for each further one |");
     println!("|---|---|---|---|---|");
     let sizes = [62, 125, 250, 500, 1000];
-    growth("multiplies", "MVMULs", |_, n| jobs::cleared_multiplies(n), sizes);
-    growth("scalars", "instructions", jobs::scalars, [61, 122, 245, 490, 980]);
+    growth(
+        "multiplies",
+        "MVMULs",
+        |_, n| jobs::cleared_multiplies(n),
+        sizes,
+    );
+    growth(
+        "scalars",
+        "instructions",
+        jobs::scalars,
+        [61, 122, 245, 490, 980],
+    );
     growth("row loads", "rows", jobs::row_loads, [8, 16, 31, 62, 124]);
-    growth("register loads", "registers", jobs::register_loads, [55, 111, 222, 445, 890]);
+    growth(
+        "register loads",
+        "registers",
+        jobs::register_loads,
+        [55, 111, 222, 445, 890],
+    );
     println!("\n## The job program as a whole process\n");
     println!("| Job | Bytes | Bytes printed | Milliseconds | Peak memory, KiB |");
     println!("|---|---|---|---|---|");
     for (name, job) in &named {
         process::measure(emulate, name, job);
     }
-    process::measure(emulate, "output-heavy: 64 rows, over and over", &jobs::outputs());
+    process::measure(
+        emulate,
+        "output-heavy: 64 rows, over and over",
+        &jobs::outputs(),
+    );
     ExitCode::SUCCESS
 }

@@ -19,7 +19,9 @@ fn start(program: &str, job: &[u8]) -> Child {
 fn finish(mut child: Child) -> usize {
     let mut printed = Vec::new();
     let mut output = child.stdout.take().expect("a pipe");
-    output.read_to_end(&mut printed).expect("the job program prints");
+    output
+        .read_to_end(&mut printed)
+        .expect("the job program prints");
     assert!(child.wait().expect("the job program ends").success());
     printed.len()
 }

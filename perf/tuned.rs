@@ -23,7 +23,11 @@ fn slice(number: u32, keep: u32, top: u32, digits: u32) -> f32 {
     } else {
         (f32::from_bits(e << 23) * (n as f32 * 0.0009765625)).to_bits() | sign
     };
-    let special = if m == 0 { 0x7F80_0000 | sign } else { 0x7FC0_0000 };
+    let special = if m == 0 {
+        0x7F80_0000 | sign
+    } else {
+        0x7FC0_0000
+    };
     f32::from_bits(match e {
         0 => 0,
         255 => special,
@@ -33,8 +37,16 @@ fn slice(number: u32, keep: u32, top: u32, digits: u32) -> f32 {
 
 pub fn multiply(p: &Product, srca: &[u32], srcb: &[u32], dst: &mut [u32]) {
     let digits = if p.format == 2 { 1016 } else { 1023 };
-    let (a_keep, a_top) = if p.phase & 1 == 1 { (62, 0) } else { (960, 1024) };
-    let (b_keep, b_top) = if p.phase & 2 == 2 { (15, 0) } else { (1008, 1024) };
+    let (a_keep, a_top) = if p.phase & 1 == 1 {
+        (62, 0)
+    } else {
+        (960, 1024)
+    };
+    let (b_keep, b_top) = if p.phase & 2 == 2 {
+        (15, 0)
+    } else {
+        (1008, 1024)
+    };
     let mut fa = [0.0f32; 256];
     for (x, &number) in fa.iter_mut().zip(&srca[p.a * 16..][..256]) {
         *x = slice(number, a_keep, a_top, digits);
@@ -43,7 +55,10 @@ pub fn multiply(p: &Product, srca: &[u32], srcb: &[u32], dst: &mut [u32]) {
     for (y, &number) in fb.iter_mut().zip(&srcb[p.b * 16..][..p.rows * 16]) {
         *y = slice(number, b_keep, b_top, digits);
     }
-    for (row, y) in dst[p.dst * 16..][..p.rows * 16].chunks_exact_mut(16).zip(fb.chunks_exact(16)) {
+    for (row, y) in dst[p.dst * 16..][..p.rows * 16]
+        .chunks_exact_mut(16)
+        .zip(fb.chunks_exact(16))
+    {
         let mut sum = [0.0f32; 16];
         for (x, &y) in fa.chunks_exact(16).zip(y) {
             for j in 0..16 {
@@ -52,7 +67,11 @@ pub fn multiply(p: &Product, srca: &[u32], srcb: &[u32], dst: &mut [u32]) {
         }
         for j in 0..16 {
             let result = f32::from_bits(row[j]) + sum[j];
-            row[j] = if result.is_nan() { 0x7FC0_0000 } else { result.to_bits() };
+            row[j] = if result.is_nan() {
+                0x7FC0_0000
+            } else {
+                result.to_bits()
+            };
         }
     }
 }

@@ -184,7 +184,9 @@ fn compare(rng: &mut Rng, tally: &mut Tally) -> Result<(), String> {
         let answer = engine::run(&bytes, &mut second);
         let packed = proved_run(&bytes, &mut proved);
         if answer != expected || packed != repacked(&expected) {
-            return Err(format!("run {n}: {packed:#x}, not {expected:?} ({answer:?})"));
+            return Err(format!(
+                "run {n}: {packed:#x}, not {expected:?} ({answer:?})"
+            ));
         }
         if let Some(what) = difference(&proved, &second) {
             return Err(format!("run {n}: {what}"));
