@@ -11,8 +11,8 @@
      Below 2^63: the job finished (the run) or passed (the pre-check), and the number is the count of its issue fields;
      of a step it is 0: done.
      Else it was refused: 2^63 + number * 2^32 + place. The number is 1 to 10, as the README's table says; the place is
-     the byte offset of the field's tag, or the job's length where no output stands, and 0 for a wrong length of a file.
-     A step is refused with 1 to 7 or 9, always at place 0. */
+     the byte offset of the field's tag, or the job's length where no output stands, and 0 for a job over 8,192 bytes or
+     a wrong length of a file. A step is refused with 1 to 7 or 9, always at place 0. */
 
 #ifndef VINTRAZZOLA_H
 #define VINTRAZZOLA_H

@@ -75,7 +75,7 @@ fn product(control: &Control, thread: usize, it: &Instruction) -> Option<Product
     })
 }
 
-/// The second program's run with the tuned multiply in place of its own.
+/// The second program's run, a multiply done by the tuned version.
 fn tuned_run(job: &[u8], state: &mut State) -> Answer {
     let answer = engine::precheck(job);
     if let Answer::Refused { .. } = answer {
@@ -83,20 +83,32 @@ fn tuned_run(job: &[u8], state: &mut State) -> Answer {
     }
     let (mut control, mut marks) = (Control::start(), Marks::start());
     for (place, field) in engine::shape(job).0 {
-        let mut multiply = None;
         if let Field::Issue { thread, word } = field {
-            match engine::rules(&control, thread, word) {
-                Ok(it) => multiply = product(&control, thread, &it),
-                Err(_) => return Answer::Refused { number: 10, place },
+            if !tuned_step(&mut control, thread, word, state) {
+                return Answer::Refused { number: 10, place };
             }
+        } else {
+            engine::act(&control, &field, state);
+            engine::follow(&mut control, &mut marks, &field);
         }
-        match multiply {
-            Some(p) => tuned::multiply(&p, &state.srca, &state.srcb, &mut state.dst),
-            None => engine::act(&control, &field, state),
-        }
-        engine::follow(&mut control, &mut marks, &field);
     }
     answer
+}
+
+/// The second program's single step, likewise: whether it was done.
+fn tuned_step(control: &mut Control, thread: usize, word: u32, state: &mut State) -> bool {
+    if !control.in_range() {
+        return false;
+    }
+    let Ok(it) = engine::rules(control, thread, word) else {
+        return false;
+    };
+    let Some(p) = product(control, thread, &it) else {
+        return engine::step(control, thread as u8, word, state) == 0;
+    };
+    tuned::multiply(&p, &state.srca, &state.srcb, &mut state.dst);
+    engine::change_record(control, thread, it);
+    true
 }
 
 /// The multiplies of a job in their order.

@@ -615,7 +615,7 @@ fn apply_slot(thread: &mut Thread, number: u32) {
 }
 
 /// What an instruction does to the record; clear comes before the slot.
-fn change_record(control: &mut Control, thread: usize, it: Instruction) {
+pub fn change_record(control: &mut Control, thread: usize, it: Instruction) {
     if let Class::Multiply { .. } = it.entry.class {
         control.last = control.a_row(thread) as u8;
     }

@@ -1,4 +1,4 @@
--- One rule more after others, and what a word that breaks none of 2 to 7 reads. Assumes nothing.
+-- One rule more after others, what a word that breaks none of 2 to 7 reads, and an issue field by the fields of its word. Assumes nothing.
 use mathlib.Core.Path.{_≡_, refl, sym, ap, _∙_}
 use mathlib.Core.Bool.{Bool, not}
 use mathlib.Core.List.{List, [], _∷_, _++_}
@@ -24,9 +24,8 @@ use Rattle.rules.specs.declared.Verdict.{Verdict}
 use Rattle.rules.specs.declared.Verdict.the-variants.{Done, Refused}
 use Rattle.rules.proofs.Reading.{acting-is, judged, judged-refused}
 use Rattle.job.specs.declared.Kind.the-variants.{Issue}
-use Rattle.precheck.specs.Marks.{readsSet, instructionMarks}
+use Rattle.precheck.specs.Marks.{Marks, readsSet, instructionMarks}
 use Rattle.precheck.specs.Fields.{unsetRead, fieldRules, fieldMarks}
-use Rattle.precheck.specs.Marks.{Marks}
 
 pub never : {x : Refusal} → Refused x ≡ Done → ⊥
 never e = let z : _≡_ {A = ℕ} 0 1 = cc in omega arith

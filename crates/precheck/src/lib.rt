@@ -89,7 +89,7 @@ pub fn field_control(job: &[u8], c: Control, place: usize, kind: Kind) -> Contro
     }
 }
 
-// Whether a field changes the record.
+// Whether a field may change the record.
 pub fn moves(kind: Kind) -> bool
     ensures { λ r. ⌜ r ≡ movesControl kind ⌝ }
 {

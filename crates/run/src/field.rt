@@ -61,7 +61,7 @@ fn load_register(job: &[u8], place: usize, thread: u8, r: u8, registers: &mut [u
 }
 
 // What a field at `place` that is no issue field does.
-pub fn perform(
+pub(crate) fn perform(
     job: &[u8],
     c: Control,
     place: usize,

@@ -1,0 +1,90 @@
+/* The C interface as a caller in C meets it: include/vintrazzola.h, the paper's register job, and single steps.
+   tests/compare/run builds it and runs it with the job's path. */
+#include <stdio.h>
+#include <string.h>
+
+#include "../../include/vintrazzola.h"
+
+static int passed, failed;
+
+static void expect(const char *what, uint64_t got, uint64_t wanted) {
+    if (got == wanted) {
+        passed++;
+        return;
+    }
+    failed++;
+    printf("%s: %llu, not %llu\n", what, (unsigned long long)got, (unsigned long long)wanted);
+}
+
+static uint32_t record[VINTRAZZOLA_RECORD];
+static uint32_t srca[VINTRAZZOLA_SRCA], srcb[VINTRAZZOLA_SRCB], dst[VINTRAZZOLA_DST], registers[VINTRAZZOLA_REGISTERS];
+
+static uint64_t run(const uint8_t *job, size_t length) {
+    return vintrazzola_run(job, length, srca, VINTRAZZOLA_SRCA, srcb, VINTRAZZOLA_SRCB, dst, VINTRAZZOLA_DST, registers,
+                           VINTRAZZOLA_REGISTERS);
+}
+
+static uint64_t step(uint32_t thread, uint32_t word) {
+    return vintrazzola_step(record, VINTRAZZOLA_RECORD, thread, word, srca, VINTRAZZOLA_SRCA, srcb, VINTRAZZOLA_SRCB, dst,
+                            VINTRAZZOLA_DST, registers, VINTRAZZOLA_REGISTERS);
+}
+
+int main(int argc, char **argv) {
+    static uint8_t job[8193];
+    FILE *file = argc == 2 ? fopen(argv[1], "rb") : NULL;
+    if (!file) {
+        fprintf(stderr, "header JOB\n");
+        return 2;
+    }
+    size_t length = fread(job, 1, sizeof job, file);
+    fclose(file);
+
+    /* the paper's register job, whole and cut off by a byte */
+    expect("the pre-check", vintrazzola_precheck(job, length), 1);
+    expect("the run", run(job, length), 1);
+    expect("its register", registers[3], 9);
+    uint64_t cut = run(job, length - 1);
+    expect("a cut job", vintrazzola_refused(cut), 1);
+    expect("its number", vintrazzola_number(cut), 1);
+    expect("its place", vintrazzola_place(cut), 180);
+    expect("its register", registers[3], 9);
+
+    /* thread 1: register 5 becomes register 2 or the constant 6 */
+    registers[64 + 2] = 0x30;
+    expect("a scalar step", step(1, 0x5B000000 | 1u << 23 | 1 << 18 | 5 << 12 | 6 << 6 | 2), 0);
+    expect("its register", registers[64 + 5], 0x36);
+
+    /* thread 2: SETRWC sets Dst to 7, and the record goes on to an INCRWC by 4 */
+    uint32_t *thread = record + VINTRAZZOLA_THREAD(2);
+    expect("SETRWC", step(2, 0x37000004 | 7 << 14), 0);
+    expect("its Dst", thread[0], 7);
+    expect("its Dst_Cr", thread[1], 7);
+    expect("INCRWC", step(2, 0x38000000 | 4 << 14), 0);
+    expect("its Dst", thread[0], 11);
+    expect("its Dst_Cr", thread[1], 7);
+
+    /* a slot: SHIFTXB of thread 0 moves SrcB by 3, and needs the matrix unit to own the bank */
+    record[VINTRAZZOLA_SLOT(0, 1) + 3] = 3;
+    uint64_t owner = step(0, 0x18000000 | 1 << 14);
+    expect("the other owner", vintrazzola_number(owner), 6);
+    record[VINTRAZZOLA_BANKS_B + 2] = 1;
+    srcb[0] = 17;
+    expect("SHIFTXB", step(0, 0x18000000 | 1 << 14), 0);
+    expect("its column 15", srcb[15], 17);
+    expect("its SrcB", record[VINTRAZZOLA_THREAD(0) + 4], 3);
+
+    /* numbers of no record */
+    uint32_t before[VINTRAZZOLA_RECORD];
+    record[VINTRAZZOLA_LAST_ROW] = 1;
+    memcpy(before, record, sizeof before);
+    uint64_t none = step(0, 0x21000000);
+    expect("no record", vintrazzola_number(none), 1);
+    expect("its place", vintrazzola_place(none), 0);
+    expect("the record as it came", memcmp(before, record, sizeof before), 0);
+    record[VINTRAZZOLA_LAST_ROW] = 16;
+    expect("a record again", step(0, 0x21000000), 0);
+    expect("no such thread", vintrazzola_number(step(3, 0x21000000)), 1);
+
+    printf("%d passed, %d failed\n", passed, failed);
+    return failed > 0;
+}
