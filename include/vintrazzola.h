@@ -28,8 +28,17 @@ extern "C" {
    answer 9 at 0. */
 #define VINTRAZZOLA_SRCA 2048     /* number of bank, row, column: (bank * 64 + row) * 16 + column */
 #define VINTRAZZOLA_SRCB 2048     /* the same */
-#define VINTRAZZOLA_DST 8192      /* row * 16 + column */
+#define VINTRAZZOLA_DST 8192      /* row * 16 + column; in the BF16 mode two rows share a lent row, as below */
 #define VINTRAZZOLA_REGISTERS 192 /* thread * 64 + register */
+
+/* Dst has 8,192 numbers in either mode. The settings of the job, or of a step's record, say how its rows lie in them.
+   With Fp32, INT8 and FP16A force off and format 2, the BF16 mode, there are 1,024 rows of 16-bit numbers: row r below
+   512 is the low half of lent row r, row r from 512 up the high half of lent row r - 512. Else there are 512 rows of
+   32-bit numbers, as they were lent.
+
+   A multiply is refused with 5 where the settings are modelled in neither mode: they are not those of the BF16 mode, nor
+   Fp32 on, INT8 and FP16A force off and format 2 or 6. In the BF16 mode 7 is never given, as each multiply's first row
+   is below 1,024. */
 
 /* Would the job run to its end, over any lent state? */
 uint64_t vintrazzola_precheck(const uint8_t *job, size_t job_length);

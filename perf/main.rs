@@ -16,8 +16,9 @@ use std::hint::black_box;
 use std::process::ExitCode;
 use std::time::Instant;
 
-use engine::{Answer, Class, Control, Field, Instruction, Marks, State};
+use engine::{Answer, Class, Control, Field, Instruction, Marks, State, Width};
 use generate::Rng;
+use jobs::Mode;
 use tuned::Product;
 
 #[link(name = "capi", kind = "static")]
@@ -66,6 +67,7 @@ fn product(control: &Control, thread: usize, it: &Instruction) -> Option<Product
         return None;
     };
     Some(Product {
+        halves: control.width() == Width::Bits16,
         format: control.format,
         phase: control.phase(thread),
         a: control.matrix_bank(0) * 64 + control.a_row(thread),
@@ -231,6 +233,25 @@ fn measure_precheck(name: &str, job: &[u8]) {
     row(name, job, t[0], &[Some(t[1])]);
 }
 
+/// The same work in rows of 32-bit and of 16-bit numbers, the proved run of both.
+fn measure_widths(name: &str, make: impl Fn(Mode) -> Vec<u8>) {
+    let jobs = [Mode::Bf16In32, Mode::Bf16].map(make);
+    let mut states = [same(name, &jobs[0]), same(name, &jobs[1])];
+    let mut contenders: Vec<Box<dyn FnMut()>> = Vec::new();
+    for (job, state) in jobs.iter().zip(&mut states) {
+        contenders.push(Box::new(|| {
+            black_box(proved_run(black_box(job), state));
+        }));
+    }
+    let t = times(&mut contenders);
+    println!(
+        "| {name} | {:.1} | {:.1} | {:.2} |",
+        t[0],
+        t[1],
+        t[1] / t[0]
+    );
+}
+
 type Maker = fn(&mut Rng, usize) -> Vec<u8>;
 
 fn growth(name: &str, unit: &str, make: Maker, sizes: [usize; 5]) {
@@ -258,14 +279,22 @@ fn main() -> ExitCode {
         eprintln!("perf EMULATE");
         return ExitCode::from(2);
     };
-    let named: [(&str, Vec<u8>); 5] = [
+    let named: [(&str, Vec<u8>); 7] = [
         (
             "multiply-heavy: 1,000 MVMULs, cleared Src",
-            jobs::cleared_multiplies(1000),
+            jobs::cleared_multiplies(Mode::Tf32, 1000),
         ),
         (
             "multiply-heavy: 800 MVMULs, loaded Src",
-            jobs::loaded_multiplies(&mut Rng(1), 800),
+            jobs::loaded_multiplies(&mut Rng(1), Mode::Tf32, 800),
+        ),
+        (
+            "BF16 Dst: 1,000 MVMULs, cleared Src",
+            jobs::cleared_multiplies(Mode::Bf16, 1000),
+        ),
+        (
+            "BF16 Dst: 800 MVMULs, loaded Src",
+            jobs::loaded_multiplies(&mut Rng(1), Mode::Bf16, 800),
         ),
         (
             "scalar-heavy: 980 instructions",
@@ -283,6 +312,21 @@ fn main() -> ExitCode {
     for (name, job) in &named {
         measure_run(name, job);
     }
+    println!("\n## BF16 Dst rows against 32-bit ones, format 2, in microseconds\n");
+    println!("| Job | 32 bits | 16 bits | Ratio |");
+    println!("|---|---|---|---|");
+    measure_widths("1,000 MVMULs, cleared Src", |mode| {
+        jobs::cleared_multiplies(mode, 1000)
+    });
+    measure_widths("800 MVMULs, loaded Src", |mode| {
+        jobs::loaded_multiplies(&mut Rng(1), mode, 800)
+    });
+    measure_widths("1,000 zeroings of 512 rows", |mode| {
+        jobs::zeroings(mode, 1000)
+    });
+    measure_widths("2 loads of 60 rows", |mode| {
+        jobs::dst_loads(&mut Rng(1), mode)
+    });
     println!("\n## The pre-check alone, in microseconds\n");
     println!("| Job | Bytes | Proved | Second program | Ratio |");
     println!("|---|---|---|---|---|");
@@ -296,7 +340,7 @@ fn main() -> ExitCode {
     growth(
         "multiplies",
         "MVMULs",
-        |_, n| jobs::cleared_multiplies(n),
+        |_, n| jobs::cleared_multiplies(Mode::Tf32, n),
         sizes,
     );
     growth(

@@ -1,8 +1,10 @@
 //! The multiply as one would tune it by hand: both files' slices are split once for each multiply,
 //! and the sixteen columns of a row are carried along together, so that they go into vectors.
 
-/// What a multiply works on; rows count from the start of their file.
+/// What a multiply works on; rows count from the start of their file. With `halves` Dst has rows of
+/// 16-bit numbers, first all low halves of its numbers and then all high ones.
 pub struct Product {
+    pub halves: bool,
     pub format: u8,
     pub phase: u8,
     pub a: usize,
@@ -55,23 +57,44 @@ pub fn multiply(p: &Product, srca: &[u32], srcb: &[u32], dst: &mut [u32]) {
     for (y, &number) in fb.iter_mut().zip(&srcb[p.b * 16..][..p.rows * 16]) {
         *y = slice(number, b_keep, b_top, digits);
     }
-    for (row, y) in dst[p.dst * 16..][..p.rows * 16]
-        .chunks_exact_mut(16)
-        .zip(fb.chunks_exact(16))
-    {
+    for (i, y) in fb.chunks_exact(16).take(p.rows).enumerate() {
         let mut sum = [0.0f32; 16];
         for (x, &y) in fa.chunks_exact(16).zip(y) {
             for j in 0..16 {
                 sum[j] += x[j] * y;
             }
         }
-        for j in 0..16 {
-            let result = f32::from_bits(row[j]) + sum[j];
-            row[j] = if result.is_nan() {
-                0x7FC0_0000
-            } else {
-                result.to_bits()
-            };
+        let at = (p.dst + i) * 16;
+        if !p.halves {
+            for (number, s) in dst[at..][..16].iter_mut().zip(sum) {
+                *number = plus(*number, s);
+            }
+        } else if at < dst.len() {
+            for (number, s) in dst[at..][..16].iter_mut().zip(sum) {
+                *number = (*number & 0xFFFF_0000) | rounded(plus(*number << 16, s));
+            }
+        } else {
+            let at = at - dst.len();
+            for (number, s) in dst[at..][..16].iter_mut().zip(sum) {
+                *number = (*number & 0xFFFF) | (rounded(plus(*number & 0xFFFF_0000, s)) << 16);
+            }
         }
     }
+}
+
+/// The number of a pattern plus a sum, as a pattern.
+#[inline(always)]
+fn plus(old: u32, sum: f32) -> u32 {
+    let result = f32::from_bits(old) + sum;
+    if result.is_nan() {
+        0x7FC0_0000
+    } else {
+        result.to_bits()
+    }
+}
+
+/// The upper half of a pattern, rounded to nearest even. The one NaN that `plus` makes stays.
+#[inline(always)]
+fn rounded(pattern: u32) -> u32 {
+    (pattern + 0x7FFF + ((pattern >> 16) & 1)) >> 16
 }

@@ -11,8 +11,8 @@ mod generate;
 
 use std::process::ExitCode;
 
-use engine::{lines, Answer, Control, Owner, Slot, State, Thread, A, B};
-use generate::{job, record, state, word, Rng};
+use engine::{lines, Answer, Class, Control, Owner, Slot, State, Thread, Width, A, B};
+use generate::{job, record, reload, state, word, Rng};
 
 #[link(name = "capi", kind = "static")]
 extern "C" {
@@ -165,6 +165,8 @@ struct Tally {
     refused: [u64; 11],
     resized: u64,
     over_long: u64,
+    /// With 16-bit Dst rows: all of them, and the passing ones.
+    halves: [u64; 2],
 }
 
 /// The first thing in which the two differ over one job, or nothing.
@@ -175,7 +177,15 @@ fn compare(rng: &mut Rng, tally: &mut Tally) -> Result<(), String> {
     if packed != repacked(&expected) || unpack(packed) != expected {
         return Err(format!("pre-check: {packed:#x}, not {expected:?}"));
     }
+    let packed = proved_precheck(&reload(rng, &bytes));
+    if packed != repacked(&expected) {
+        return Err(format!(
+            "pre-check of other values: {packed:#x}, not {expected:?}"
+        ));
+    }
     tally.over_long += u64::from(bytes.len() > engine::LIMIT);
+    let halves = u64::from(engine::width_of(&engine::shape(&bytes).0) == Width::Bits16);
+    tally.halves[0] += halves;
 
     let mut printed = Vec::new();
     for n in 0..2 {
@@ -208,6 +218,7 @@ fn compare(rng: &mut Rng, tally: &mut Tally) -> Result<(), String> {
             return Err("the lines depend on the lent state".to_string());
         }
         tally.passing += 1;
+        tally.halves[1] += halves;
         tally.issued += count;
         tally.lines += printed[0].len() as u64;
     }
@@ -343,6 +354,8 @@ fn control(numbers: &[u32]) -> Option<Control> {
 #[derive(Default)]
 struct StepTally {
     done: u64,
+    /// Multiplies into 16-bit Dst rows among them.
+    halves: u64,
     refused: [u64; 11],
     no_record: u64,
     resized: u64,
@@ -420,6 +433,10 @@ fn compare_step(rng: &mut Rng, tally: &mut StepTally) -> Result<(), String> {
         }
         if number == 0 {
             tally.done += 1;
+            let multiply = engine::entry_of(word)
+                .is_some_and(|entry| matches!(entry.class, Class::Multiply { .. }));
+            let width = second_record.as_ref().map(Control::width);
+            tally.halves += u64::from(multiply && width == Some(Width::Bits16));
             if second_record.as_ref().map(numbers).as_ref() != Some(&proved_record) {
                 return Err(format!("{told}: another record after it"));
             }
@@ -475,12 +492,19 @@ fn main() -> ExitCode {
     );
     print_refused("jobs", &tally.refused);
     println!(
+        "{} jobs with 16-bit Dst rows, {} of them passed",
+        tally.halves[0], tally.halves[1]
+    );
+    println!(
         "{} jobs over 8,192 bytes, {} runs on slices of a wrong length",
         tally.over_long, tally.resized
     );
     let mut tally = StepTally::default();
     failed += hold("step", seed, count, |rng| compare_step(rng, &mut tally));
-    println!("{} steps done", tally.done);
+    println!(
+        "{} steps done, {} of them multiplies into 16-bit Dst rows",
+        tally.done, tally.halves
+    );
     print_refused("steps", &tally.refused);
     println!(
         "of these {count} fresh, {} chained; {} fresh ones on numbers of no record, {} on files of a wrong length",

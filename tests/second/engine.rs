@@ -1,18 +1,18 @@
-//! Document 01 a second time: plain loops over plain numbers, written from the paper alone, so
-//! that another program can be held against it from outside. Nothing here uses the other files.
+//! Document 01, with the Dst rows of order 1 in document 02, a second time: plain loops over plain
+//! numbers, written from the papers alone, so that another program can be held against it from
+//! outside. Nothing here uses the other files.
 
 // A program that takes this file by its path may need only a part of it.
 #![allow(dead_code)]
+
+use std::cmp::Ordering;
 
 /// The three files of rows; the first two double as indexes for what A and B have in common.
 pub const A: usize = 0;
 pub const B: usize = 1;
 pub const D: usize = 2;
-pub const ROWS: [usize; 3] = [64, 64, 512];
 /// A job's greatest length in bytes.
 pub const LIMIT: usize = 8192;
-/// What a result that isn't a number is stored as.
-pub const NAN: u32 = 0x7FC0_0000;
 
 #[derive(Debug, Clone, PartialEq, Eq)]
 pub enum Answer {
@@ -20,10 +20,113 @@ pub enum Answer {
     Refused { number: u8, place: usize },
 }
 
+// ------------------------------------------------------------------------------- Dst's two widths
+
+/// The lent numbers of Dst, whatever their width.
+pub const DST: usize = 8192;
+
+/// How wide a Dst number is. The settings decide it, and so it is one for a whole job.
+#[derive(Debug, Clone, Copy, PartialEq, Eq)]
+pub enum Width {
+    /// 512 rows of 32-bit numbers, the lent ones.
+    Bits32,
+    /// 1,024 rows of 16-bit numbers: the low halves of the lent rows, then their high halves.
+    Bits16,
+}
+
+impl Width {
+    pub const ALL: [Width; 2] = [Width::Bits32, Width::Bits16];
+
+    pub fn bits(self) -> usize {
+        match self {
+            Width::Bits32 => 32,
+            Width::Bits16 => 16,
+        }
+    }
+
+    pub fn rows(self) -> usize {
+        DST / 16 * (32 / self.bits())
+    }
+
+    /// The digits of a printed number.
+    pub fn digits(self) -> usize {
+        self.bits() / 4
+    }
+
+    /// The highest number.
+    pub fn top(self) -> u32 {
+        u32::MAX >> (32 - self.bits())
+    }
+
+    /// What a result that isn't a number is stored as.
+    pub fn nan(self) -> u32 {
+        match self {
+            Width::Bits32 => 0x7FC0_0000,
+            Width::Bits16 => 0x7FC0,
+        }
+    }
+
+    /// The number at row * 16 + column.
+    pub fn get(self, dst: &[u32], at: usize) -> u32 {
+        (dst[at % DST] >> (at / DST * self.bits())) & self.top()
+    }
+
+    /// Stores a number there; the other half of the lent number, where there is one, stays.
+    pub fn put(self, dst: &mut [u32], at: usize, number: u32) {
+        let place = at / DST * self.bits();
+        let lent = &mut dst[at % DST];
+        *lent = (*lent & !(self.top() << place)) | (number << place);
+    }
+
+    /// The binary32 number that a Dst number stands for.
+    pub fn widen(self, number: u32) -> f32 {
+        f32::from_bits(number << (32 - self.bits()))
+    }
+
+    /// A binary32 result as it is stored.
+    pub fn narrow(self, result: f32) -> u32 {
+        match self {
+            _ if result.is_nan() => self.nan(),
+            Width::Bits32 => result.to_bits(),
+            Width::Bits16 => nearest_bf16(result.to_bits()),
+        }
+    }
+}
+
+/// The BF16 number nearest to a binary32 number, of two equally near ones the even one. The
+/// neighbours are the upper 16 bits alone and the next number away from zero, which is infinity
+/// above the largest finite one; the lower 16 bits tell which is nearer.
+fn nearest_bf16(bits: u32) -> u32 {
+    let (toward_zero, rest) = (bits >> 16, bits & 0xFFFF);
+    match rest.cmp(&0x8000) {
+        Ordering::Less => toward_zero,
+        Ordering::Equal => toward_zero + toward_zero % 2,
+        Ordering::Greater => toward_zero + 1,
+    }
+}
+
+/// How many rows a file has.
+pub fn rows_of(file: usize, width: Width) -> usize {
+    if file == D {
+        width.rows()
+    } else {
+        64
+    }
+}
+
+/// The highest value that may be loaded into a file.
+pub fn top_of(file: usize, width: Width) -> u32 {
+    if file == D {
+        width.top()
+    } else {
+        (1 << 19) - 1
+    }
+}
+
 // ---------------------------------------------------------------- lent state, record and marks
 
-/// The lent numbers: SrcA and SrcB as bank, row, column; Dst as row, column; registers as
-/// thread, register.
+/// The lent numbers: SrcA and SrcB as bank, row, column; Dst as row, column of 32 bits; registers
+/// as thread, register.
 #[derive(Debug, Clone, PartialEq, Eq)]
 pub struct State {
     pub srca: Vec<u32>,
@@ -37,7 +140,7 @@ impl State {
         State {
             srca: vec![0; 2048],
             srcb: vec![0; 2048],
-            dst: vec![0; 8192],
+            dst: vec![0; DST],
             registers: vec![0; 192],
         }
     }
@@ -45,7 +148,7 @@ impl State {
     pub fn fits(&self) -> bool {
         self.srca.len() == 2048
             && self.srcb.len() == 2048
-            && self.dst.len() == 8192
+            && self.dst.len() == DST
             && self.registers.len() == 192
     }
 
@@ -165,9 +268,19 @@ impl Control {
             && [0, 16, 32, 48].contains(&self.last)
     }
 
+    /// The width of Dst: 16 bits for BF16 with all three flags off.
+    pub fn width(&self) -> Width {
+        if self.flags == 0 && self.format == 2 {
+            Width::Bits16
+        } else {
+            Width::Bits32
+        }
+    }
+
     /// The settings under which a multiply is modelled.
     pub fn modelled(&self) -> bool {
-        self.flags == 1 && (self.format == 2 || self.format == 6)
+        let fp32 = self.flags == 1 && (self.format == 2 || self.format == 6);
+        fp32 || self.width() == Width::Bits16
     }
 
     pub fn matrix_bank(&self, file: usize) -> usize {
@@ -211,7 +324,8 @@ impl Control {
 pub struct Marks {
     /// By file, bank, row.
     pub src: [[[bool; 64]; 2]; 2],
-    pub dst: [bool; 512],
+    /// Of these the first 512 alone where Dst has no more rows.
+    pub dst: [bool; 1024],
     /// By thread, register.
     pub registers: [[bool; 64]; 3],
 }
@@ -220,7 +334,7 @@ impl Marks {
     pub fn start() -> Marks {
         Marks {
             src: [[[false; 64]; 2]; 2],
-            dst: [false; 512],
+            dst: [false; 1024],
             registers: [[false; 64]; 3],
         }
     }
@@ -458,7 +572,8 @@ pub fn rules(control: &Control, thread: usize, word: u32) -> Result<Instruction,
         return Err(6);
     }
     if let Class::Multiply { mask, .. } = class {
-        if control.dst_sum(thread, instruction.get("dst")) & mask >= 512 {
+        let first = control.dst_sum(thread, instruction.get("dst")) & mask;
+        if first as usize >= control.width().rows() {
             return Err(7);
         }
     }
@@ -497,7 +612,7 @@ pub fn parts(file: usize, format: u8, number: u32) -> [f32; 2] {
 }
 
 fn multiply(control: &Control, thread: usize, rows: usize, first: usize, state: &mut State) {
-    let phase = control.phase(thread);
+    let (width, phase) = (control.width(), control.phase(thread));
     let (a_low, b_low) = ((phase & 1) as usize, (phase >> 1) as usize);
     let a = control.matrix_bank(A) * 64 + control.a_row(thread);
     let b = control.matrix_bank(B) * 64 + control.b_row(thread);
@@ -509,13 +624,9 @@ fn multiply(control: &Control, thread: usize, rows: usize, first: usize, state: 
                 let y = parts(B, control.format, state.srcb[(b + i) * 16 + k])[b_low];
                 sum += x * y;
             }
-            let number = &mut state.dst[(first + i) * 16 + j];
-            let result = f32::from_bits(*number) + sum;
-            *number = if result.is_nan() {
-                NAN
-            } else {
-                result.to_bits()
-            };
+            let at = (first + i) * 16 + j;
+            let result = width.widen(width.get(&state.dst, at)) + sum;
+            width.put(&mut state.dst, at, width.narrow(result));
         }
     }
 }
@@ -753,8 +864,9 @@ fn settings(payload: &[u8]) -> Option<Field> {
     record.in_range().then(|| Field::Settings(Box::new(record)))
 }
 
-/// One field from its tag and payload, where length and values are as the job's table says.
-pub fn read(tag: u8, payload: &[u8]) -> Option<Field> {
+/// One field from its tag and payload, where length and values are as the job's table says for a
+/// Dst of this width.
+pub fn read(width: Width, tag: u8, payload: &[u8]) -> Option<Field> {
     if !length_fits(tag, payload.len()) {
         return None;
     }
@@ -768,8 +880,8 @@ pub fn read(tag: u8, payload: &[u8]) -> Option<Field> {
             let (file, first) = (byte(0), pair(1));
             let numbers: Vec<u32> = (3..payload.len()).step_by(4).map(word).collect();
             let fits = file < 3
-                && first + numbers.len() / 16 <= ROWS[file]
-                && (file == D || numbers.iter().all(|&number| number < 1 << 19));
+                && first + numbers.len() / 16 <= rows_of(file, width)
+                && numbers.iter().all(|&number| number <= top_of(file, width));
             fits.then_some(Field::LoadRows {
                 file,
                 first,
@@ -788,7 +900,7 @@ pub fn read(tag: u8, payload: &[u8]) -> Option<Field> {
         }),
         6 => {
             let (first, count) = (pair(0), byte(2));
-            let fits = (1..=64).contains(&count) && first + count <= ROWS[D];
+            let fits = (1..=64).contains(&count) && first + count <= width.rows();
             fits.then_some(Field::OutputRows { first, count })
         }
         7 => register(Field::OutputRegister {
@@ -797,7 +909,7 @@ pub fn read(tag: u8, payload: &[u8]) -> Option<Field> {
         }),
         8 => {
             let (first, count) = (pair(0), pair(2));
-            let fits = (1..=512).contains(&count) && first + count <= ROWS[D];
+            let fits = (1..=width.rows()).contains(&count) && first + count <= width.rows();
             fits.then_some(Field::ZeroRows { first, count })
         }
         _ => None,
@@ -805,10 +917,18 @@ pub fn read(tag: u8, payload: &[u8]) -> Option<Field> {
 }
 
 /// The field that begins at a place, and where it ends.
-fn field_at(job: &[u8], at: usize) -> Option<(Field, usize)> {
+fn field_at(job: &[u8], at: usize, width: Width) -> Option<(Field, usize)> {
     let header = job.get(at..at + 3)?;
     let end = at + 3 + header[1] as usize + 256 * header[2] as usize;
-    Some((read(header[0], job.get(at + 3..end)?)?, end))
+    Some((read(width, header[0], job.get(at + 3..end)?)?, end))
+}
+
+/// Dst's width in a job, from its fields; settings that are right stand first among them.
+pub fn width_of(fields: &[(usize, Field)]) -> Width {
+    match fields.first() {
+        Some((_, Field::Settings(record))) => record.width(),
+        _ => Width::Bits32,
+    }
 }
 
 /// The fields with their places, up to the first wrong place, and that place where there is one.
@@ -820,7 +940,7 @@ pub fn shape(job: &[u8]) -> (Vec<(usize, Field)>, Option<usize>) {
     let mut at = 0;
     let mut outputs = false;
     while at < job.len() {
-        let Some((field, end)) = field_at(job, at) else {
+        let Some((field, end)) = field_at(job, at, width_of(&fields)) else {
             return (fields, Some(at));
         };
         let is_settings = matches!(field, Field::Settings(_));
@@ -938,11 +1058,15 @@ pub fn act(control: &Control, field: &Field, state: &mut State) {
             first,
             numbers,
         } => {
-            let (target, row) = match *file {
-                D => (&mut state.dst[..], *first),
-                file => (state.src(file), control.unpackers_bank(file) * 64 + first),
-            };
-            target[row * 16..][..numbers.len()].copy_from_slice(numbers);
+            if *file == D {
+                let width = control.width();
+                for (n, &number) in numbers.iter().enumerate() {
+                    width.put(&mut state.dst, first * 16 + n, number);
+                }
+            } else {
+                let row = control.unpackers_bank(*file) * 64 + first;
+                state.src(*file)[row * 16..][..numbers.len()].copy_from_slice(numbers);
+            }
         }
         Field::LoadRegister {
             thread,
@@ -955,7 +1079,12 @@ pub fn act(control: &Control, field: &Field, state: &mut State) {
             let it = decode(*word).expect("a word that breaks no rule");
             change_numbers(control, *thread, it, state);
         }
-        Field::ZeroRows { first, count } => state.dst[first * 16..][..count * 16].fill(0),
+        Field::ZeroRows { first, count } => {
+            let width = control.width();
+            for at in first * 16..(first + count) * 16 {
+                width.put(&mut state.dst, at, 0);
+            }
+        }
         _ => {}
     }
 }
@@ -1011,13 +1140,16 @@ pub fn run(job: &[u8], state: &mut State) -> Answer {
 /// The output lines of a finished job over its final state.
 pub fn lines(job: &[u8], state: &State) -> Vec<String> {
     let mut lines = Vec::new();
-    for (_, field) in shape(job).0 {
+    let fields = shape(job).0;
+    let width = width_of(&fields);
+    for (_, field) in fields {
         match field {
             Field::OutputRows { first, count } => {
                 for row in first..first + count {
                     let mut line = format!("D {row}");
-                    for number in &state.dst[row * 16..][..16] {
-                        line += &format!(" {number:08x}");
+                    for column in 0..16 {
+                        let number = width.get(&state.dst, row * 16 + column);
+                        line += &format!(" {number:0digits$x}", digits = width.digits());
                     }
                     lines.push(line);
                 }

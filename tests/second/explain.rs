@@ -2,9 +2,10 @@
 
 use std::collections::HashMap;
 
+use super::bf16;
 use super::engine::{
-    act, decode, entry_of, follow, length_fits, precheck, read, shape, Answer, Class, Control,
-    Entry, Field, Instruction, Marks, Owner, State, A, B, D, LIMIT, NAN, TABLE,
+    act, decode, entry_of, follow, length_fits, precheck, read, shape, width_of, Answer, Class,
+    Control, Entry, Field, Instruction, Marks, Owner, State, Width, A, B, D, LIMIT, TABLE,
 };
 use super::generate::{job, ranged, Rng, RANGES};
 
@@ -89,7 +90,10 @@ fn word_text(word: u32) -> String {
 
 fn settings_text(record: &Control) -> Vec<String> {
     let (format, flags, base) = (record.format, record.flags, record.base);
-    let mut text = vec![format!("format {format}, flags {flags}, base {base}")];
+    let bits = record.width().bits();
+    let mut text = vec![format!(
+        "format {format}, flags {flags}, base {base}, {bits}-bit Dst rows"
+    )];
     for (t, thread) in record.threads.iter().enumerate() {
         let (offset, base, extra) = (thread.offset, thread.fidelity_base, thread.extra);
         text.push(format!(
@@ -114,7 +118,7 @@ fn settings_text(record: &Control) -> Vec<String> {
 }
 
 /// A field's values: the first line stands beside its kind, the others below.
-fn values(field: &Field) -> Vec<String> {
+fn values(width: Width, field: &Field) -> Vec<String> {
     match field {
         Field::Settings(record) => settings_text(record),
         Field::LoadRows {
@@ -123,8 +127,9 @@ fn values(field: &Field) -> Vec<String> {
             numbers,
         } => {
             let mut text = vec![format!("{} from row {first}", FILES[*file])];
+            let digits = if *file == D { width.digits() } else { 5 };
             for (n, row) in numbers.chunks(16).enumerate() {
-                let row: Vec<String> = row.iter().map(|number| format!("{number:x}")).collect();
+                let row: Vec<String> = row.iter().map(|n| format!("{n:0digits$x}")).collect();
                 text.push(format!("  row {}: {}", first + n, row.join(" ")));
             }
             text
@@ -173,6 +178,8 @@ fn reason(bytes: &[u8], place: usize) -> &'static str {
         .get(1..3)
         .map_or(0, |pair| pair[0] as usize + 256 * pair[1] as usize);
     let payload = rest.get(3..3 + length);
+    let width = width_of(&shape(bytes).0);
+    let right = |payload: &[u8]| read(width, rest[0], payload).is_some();
     REASONS[if bytes.len() > LIMIT {
         0
     } else if bytes.is_empty() {
@@ -187,7 +194,7 @@ fn reason(bytes: &[u8], place: usize) -> &'static str {
         5
     } else if !length_fits(rest[0], length) {
         6
-    } else if payload.and_then(|payload| read(rest[0], payload)).is_none() {
+    } else if !payload.is_some_and(right) {
         7
     } else if (rest[0] == 1) != (place == 0) {
         8
@@ -202,7 +209,7 @@ pub fn explain(bytes: &[u8]) -> String {
     let (fields, wrong) = shape(bytes);
     let mut text = String::new();
     for (place, field) in &fields {
-        let values = values(field);
+        let values = values(width_of(&fields), field);
         text += &format!("{place:5}  {:<15}  {}\n", kind(field), values[0]);
         for line in &values[1..] {
             text += &format!("{:24}{line}\n", "");
@@ -274,7 +281,8 @@ const DST_DATA: [&str; 11] = [
     "subnormal",
     "other finite",
 ];
-const RESULTS: [&str; 7] = [
+/// The last is one of BF16 alone: what is left of a small negative number.
+const RESULTS: [&str; 8] = [
     "+0",
     "subnormal",
     "normal",
@@ -282,6 +290,39 @@ const RESULTS: [&str; 7] = [
     "-infinity",
     "NaN from numbers",
     "NaN from an old NaN",
+    "-0",
+];
+/// By width.
+const BEFORE: [&str; 2] = ["Dst before a multiply", "16-bit Dst before a multiply"];
+const AFTER: [&str; 2] = ["Dst after a multiply", "16-bit Dst after a multiply"];
+/// What the roundings to binary32 and then to BF16 meet.
+const ROUNDED: [&str; 12] = [
+    "nothing to round",
+    "nearer to zero",
+    "nearer away from zero",
+    "middle, even toward zero",
+    "middle, even away from zero",
+    "to infinity",
+    "infinite in binary32 already",
+    "to zero",
+    "subnormal to normal",
+    "binary32 rounds",
+    "binary32 rounds at its middle",
+    "one rounding would differ",
+];
+/// By sign.
+const ROUNDING: [&str; 2] = ["16-bit rounding, positive", "16-bit rounding, negative"];
+/// The settings by what is modelled under them.
+const MODES: [&str; 3] = ["Fp32", "16-bit rows", "neither"];
+const SPANS: [&str; 3] = ["below row 512", "from row 512 on", "across both"];
+const UNMODELLED: [&str; 7] = [
+    "Fp32, other format",
+    "Fp32, INT8 too",
+    "Fp32, FP16A too",
+    "no Fp32, TF32",
+    "no Fp32, other format",
+    "no Fp32, BF16 with INT8",
+    "no Fp32, BF16 with FP16A",
 ];
 const UNSET: [&str; 9] = [
     "multiply SrcA",
@@ -303,6 +344,8 @@ impl Table {
         };
         let numbers = |from: u32, to: u32| (from..=to).map(|n| n.to_string());
         table.enter("jobs", ["passing", "refused"]);
+        table.enter("settings of passing jobs", MODES);
+        table.enter("settings of refused jobs", MODES);
         table.enter("refusal number", numbers(1, 8));
         table.enter("size", ["8192 passing", "8193 refused"]);
         table.enter("shape wrong (1)", REASONS);
@@ -345,10 +388,7 @@ impl Table {
             (0..24).map(|bit| format!("bit {bit} alone")),
         );
         table.enter("unmodelled (5)", multiplies.clone());
-        table.enter(
-            "unmodelled (5)",
-            ["format", "Fp32 off", "INT8 on", "FP16A on"],
-        );
+        table.enter("unmodelled (5)", UNMODELLED);
         table.enter("other owner (6)", names(&|e| !e.needs().is_empty()));
         table.enter(
             "other owner (6)",
@@ -361,6 +401,31 @@ impl Table {
         );
         table.enter("Dst row from 512 (7)", multiplies.clone());
         table.enter("unset (8)", UNSET);
+        table.enter(
+            "16-bit row unset beside a set one (8)",
+            ["multiply", "output rows"],
+        );
+        for kind in [KINDS[1], KINDS[5], KINDS[7]] {
+            let spans = SPANS.map(|span| format!("{kind} {span}"));
+            table.enter("16-bit rows in passing jobs", spans);
+            for mode in [MODES[0], MODES[2]] {
+                table.enter("right with 16-bit rows (1)", [format!("{mode}, {kind}")]);
+            }
+        }
+        table.enter("right with 32-bit rows (1)", [KINDS[1]]);
+        for name in &multiplies {
+            let halves = ["low", "high"].map(|half| format!("{name} into {half} halves"));
+            table.enter("16-bit multiply", halves);
+        }
+        table.enter("16-bit multiply", ["into the last rows"]);
+        table.enter(
+            "16-bit row written beside a set one",
+            [KINDS[1], KINDS[7], "multiply"],
+        );
+        table.enter(
+            "neither mode, passing",
+            ["Dst value from 2^16 on", "row 511 put out"],
+        );
         table.enter("multiply format", ["2", "6"]);
         for name in &multiplies {
             table.enter("multiply phase", (0..4).map(|n| format!("{name} {n}")));
@@ -404,17 +469,21 @@ impl Table {
         table.enter("scalar compare", ["0", "1"]);
         table.enter("SrcA datum multiplied", SRC_DATA);
         table.enter("SrcB datum multiplied", SRC_DATA);
-        table.enter("Dst before a multiply", DST_DATA);
-        table.enter("Dst after a multiply", RESULTS);
+        for width in Width::ALL {
+            table.enter(BEFORE[width as usize], DST_DATA);
+        }
+        table.enter(AFTER[0], &RESULTS[..7]);
+        table.enter(AFTER[1], RESULTS);
+        for group in ROUNDING {
+            table.enter(group, ROUNDED);
+        }
         for name in RANGES {
             table.enter("range low end, passing", [name]);
             table.enter("range high end, passing", [name]);
             table.enter("range past high end (1)", [name]);
         }
-        table.enter(
-            "range past low end (1)",
-            ["count of an output", "count of zeroing"],
-        );
+        let counts = RANGES.iter().filter(|name| name.starts_with("count"));
+        table.enter("range past low end (1)", counts);
         table.enter(
             "rows of a load",
             ["1, passing", "64, passing", "0, refused", "65, refused"],
@@ -478,35 +547,100 @@ fn count_src(
     }
 }
 
-fn count_dst(table: &mut Table, old: u32, new: u32) {
-    let (number, result) = (f32::from_bits(old), f32::from_bits(new));
+fn count_dst(table: &mut Table, width: Width, old: u32, new: u32) {
+    let (number, result) = (width.widen(old), width.widen(new));
+    let sign = 1 << (width.bits() - 1);
+    let digits = width.bits() - 9;
+    let (infinity, quiet) = (255 << digits, 1 << (digits - 1));
     let rows = [
         old == 0,
-        old == 0x8000_0000,
-        old == 0x7F80_0000,
-        old == 0xFF80_0000,
-        number.is_nan() && old & 0x0040_0000 != 0,
-        number.is_nan() && old & 0x0040_0000 == 0,
-        number.is_nan() && old >> 31 == 1,
-        old == 0x7F7F_FFFF,
-        old == 0xFF7F_FFFF,
+        old == sign,
+        old == infinity,
+        old == sign | infinity,
+        number.is_nan() && old & quiet != 0,
+        number.is_nan() && old & quiet == 0,
+        number.is_nan() && old & sign != 0,
+        old == infinity - 1,
+        old == sign | (infinity - 1),
         number.is_subnormal(),
-        number.is_normal() && old & 0x7FFF_FFFF != 0x7F7F_FFFF,
+        number.is_normal() && old & !sign != infinity - 1,
     ];
     for (row, name) in rows.into_iter().zip(DST_DATA) {
-        table.hit_if(row, "Dst before a multiply", name);
+        table.hit_if(row, BEFORE[width as usize], name);
     }
     let rows = [
         new == 0,
         result.is_subnormal(),
         result.is_normal(),
-        new == 0x7F80_0000,
-        new == 0xFF80_0000,
-        new == NAN && !number.is_nan(),
-        new == NAN && number.is_nan(),
+        new == infinity,
+        new == sign | infinity,
+        new == width.nan() && !number.is_nan(),
+        new == width.nan() && number.is_nan(),
+        new == sign,
     ];
     for (row, name) in rows.into_iter().zip(RESULTS) {
-        table.hit_if(row, "Dst after a multiply", name);
+        table.hit_if(row, AFTER[width as usize], name);
+    }
+}
+
+/// The results of a multiply under Fp32, with these as the old numbers. With zeros they are the
+/// sums alone; with widened 16-bit numbers, what is rounded once more.
+fn under_fp32(
+    control: &Control,
+    thread: usize,
+    it: Instruction,
+    old: &[f32],
+    state: &State,
+) -> Vec<f32> {
+    let (mut control, mut state) = (control.clone(), state.clone());
+    control.flags = 1;
+    // As far down as the first row is, rounded to a multiple of 8: then it is 0 or 4.
+    let first = control.dst_sum(thread, it.get("dst")) & 0x3F8;
+    control.base = ((u32::from(control.base) + 1024 - first) % 1024) as u16;
+    let Class::Multiply { mask, .. } = it.entry.class else {
+        return Vec::new();
+    };
+    let first = control.dst_sum(thread, it.get("dst")) & mask;
+    let place = first as usize * 16..first as usize * 16 + old.len();
+    for (number, old) in state.dst[place.clone()].iter_mut().zip(old) {
+        *number = old.to_bits();
+    }
+    let word = it.word;
+    act(&control, &Field::Issue { thread, word }, &mut state);
+    let results = state.dst[place].iter();
+    results.map(|&number| f32::from_bits(number)).collect()
+}
+
+/// The roundings of one 16-bit number: old number and sum, their binary32 result, what is stored.
+fn count_rounding(table: &mut Table, old: f32, sum: f32, result: f32, new: u32) {
+    if result.is_nan() {
+        return;
+    }
+    let (toward_zero, rest) = (result.to_bits() >> 16, result.to_bits() & 0xFFFF);
+    // Where f64 holds the exact sum: what binary32 dropped of it, which put on once more leads to
+    // the other neighbour if the sum is in the middle.
+    let exact = f64::from(old) + f64::from(sum);
+    let known = exact - f64::from(old) == f64::from(sum) && exact - f64::from(sum) == old.into();
+    let dropped = exact - f64::from(result);
+    let other = exact + dropped;
+    let rounds = known && result.is_finite() && dropped != 0.0;
+    let rows = [
+        rest == 0,
+        (1..0x8000).contains(&rest),
+        rest > 0x8000,
+        rest == 0x8000 && new == toward_zero,
+        rest == 0x8000 && new != toward_zero,
+        result.is_finite() && new & 0x7FFF == 0x7F80,
+        result.is_infinite() && old.is_finite() && sum.is_finite(),
+        result != 0.0 && new & 0x7FFF == 0,
+        result.is_subnormal() && new & 0x7FFF == 0x80,
+        rounds,
+        rounds && f64::from(other as f32) == other,
+        rounds && bf16::nearest(exact) != new,
+    ];
+    let group = ROUNDING[usize::from(result.is_sign_negative())];
+    for (row, name) in rows.into_iter().zip(ROUNDED) {
+        table.hit_if(row, group, name);
     }
 }
 
@@ -561,9 +695,76 @@ fn count_multiply(
         },
         &mut after,
     );
-    for n in first * 16..(first + rows) * 16 {
-        count_dst(table, state.dst[n], after.dst[n]);
+    let width = control.width();
+    let numbers = first * 16..(first + rows) * 16;
+    for at in numbers.clone() {
+        let (old, new) = (width.get(&state.dst, at), width.get(&after.dst, at));
+        count_dst(table, width, old, new);
     }
+    if width == Width::Bits32 {
+        return;
+    }
+    let half = ["low", "high"][first / 512];
+    table.hit("16-bit multiply", format!("{name} into {half} halves"));
+    table.hit_if(
+        first + rows == 1024,
+        "16-bit multiply",
+        "into the last rows",
+    );
+    let old: Vec<f32> = numbers
+        .clone()
+        .map(|at| width.widen(width.get(&state.dst, at)))
+        .collect();
+    let sums = under_fp32(control, thread, it, &vec![0.0; old.len()], state);
+    let results = under_fp32(control, thread, it, &old, state);
+    for (n, at) in numbers.enumerate() {
+        let new = width.get(&after.dst, at);
+        count_rounding(table, old[n], sums[n], results[n], new);
+    }
+}
+
+/// Fields of a passing job with 16-bit rows, by the halves that they meet.
+fn count_halves(table: &mut Table, control: &Control, marks: &Marks, field: &Field) {
+    let (name, first, count) = match field {
+        Field::LoadRows {
+            file: D,
+            first,
+            numbers,
+        } => (KINDS[1], *first, numbers.len() / 16),
+        Field::OutputRows { first, count } | Field::ZeroRows { first, count } => {
+            (kind(field), *first, *count)
+        }
+        Field::Issue { thread, word } => {
+            let it = decode(*word).expect("a word of a passing job");
+            let Class::Multiply { rows, mask } = it.entry.class else {
+                return;
+            };
+            let first = control.dst_sum(*thread, it.get("dst")) & mask;
+            ("multiply", first as usize, rows)
+        }
+        _ => return,
+    };
+    let last = first + count - 1;
+    if name != "multiply" {
+        let span = match (first / 512, last / 512) {
+            (0, 0) => SPANS[0],
+            (0, _) => SPANS[2],
+            _ => SPANS[1],
+        };
+        table.hit("16-bit rows in passing jobs", format!("{name} {span}"));
+    }
+    let beside = (first..=last).any(|row| marks.dst[row ^ 512]);
+    let writes = beside && !field.is_output();
+    table.hit_if(writes, "16-bit row written beside a set one", name);
+}
+
+/// Which of the modes a job's settings are for.
+fn mode(control: &Control) -> &'static str {
+    MODES[match (control.width(), control.modelled()) {
+        (Width::Bits16, _) => 1,
+        (_, true) => 0,
+        _ => 2,
+    }]
 }
 
 fn count_slot(table: &mut Table, control: &Control, thread: usize, number: u32) {
@@ -683,23 +884,36 @@ fn count_passing(table: &mut Table, bytes: &[u8]) {
     table.hit_if(bytes.len() == LIMIT, "size", "8192 passing");
     let (mut control, mut marks) = (Control::start(), Marks::start());
     let mut state = State::zero();
-    for (place, field) in shape(bytes).0 {
+    let fields = shape(bytes).0;
+    let width = width_of(&fields);
+    for (place, field) in fields {
         table.hit("field in passing jobs", kind(&field));
         let length = bytes[place + 1] as usize + 256 * bytes[place + 2] as usize;
         let raw = &bytes[place..place + 3 + length];
-        for range in ranged(raw) {
+        for range in ranged(width, raw) {
             let value = range.value(raw);
             table.hit_if(value == range.low, "range low end, passing", range.name);
             table.hit_if(value == range.high, "range high end, passing", range.name);
         }
+        if width == Width::Bits16 {
+            count_halves(table, &control, &marks, &field);
+        }
+        let neither = mode(&control) == MODES[2];
         match &field {
+            Field::Settings(record) => table.hit("settings of passing jobs", mode(record)),
             Field::LoadRows { file, numbers, .. } => {
                 table.hit_if(numbers.len() == 16, "rows of a load", "1, passing");
                 table.hit_if(numbers.len() == 1024, "rows of a load", "64, passing");
                 if *file != D {
                     let bank = control.unpackers_bank(*file);
                     table.hit("load into bank", format!("{} {bank}", FILES[*file]));
+                } else if neither && numbers.iter().any(|&number| number >= 1 << 16) {
+                    table.hit("neither mode, passing", "Dst value from 2^16 on");
                 }
+            }
+            Field::OutputRows { first, count } => {
+                let last = neither && first + count == 512;
+                table.hit_if(last, "neither mode, passing", "row 511 put out");
             }
             Field::Issue { thread, word } => {
                 count_issue(table, &control, *thread, *word, &state);
@@ -752,7 +966,21 @@ fn count_shape(table: &mut Table, bytes: &[u8], place: usize) {
     }
     if why == REASONS[7] {
         let raw = &rest[..3 + length];
-        for range in ranged(raw) {
+        let fields = shape(bytes).0;
+        let width = width_of(&fields);
+        if let Some((_, Field::Settings(record))) = fields.first() {
+            let other = Width::ALL[1 - width as usize];
+            let kind = KINDS[usize::from(rest[0]) - 1];
+            match (width, read(other, rest[0], &raw[3..])) {
+                (Width::Bits32, Some(_)) => {
+                    let row = format!("{}, {kind}", mode(record));
+                    table.hit("right with 16-bit rows (1)", row);
+                }
+                (Width::Bits16, Some(_)) => table.hit("right with 32-bit rows (1)", kind),
+                _ => {}
+            }
+        }
+        for range in ranged(width, raw) {
             let value = range.value(raw);
             table.hit_if(
                 value == range.high + 1,
@@ -768,11 +996,14 @@ fn count_shape(table: &mut Table, bytes: &[u8], place: usize) {
 fn count_refused(table: &mut Table, bytes: &[u8], number: u8, place: usize) {
     table.hit("jobs", "refused");
     table.hit("refusal number", number);
+    let fields = shape(bytes).0;
+    if let Some((_, Field::Settings(record))) = fields.first() {
+        table.hit("settings of refused jobs", mode(record));
+    }
     if number == 1 {
         return count_shape(table, bytes, place);
     }
     let (mut control, mut marks) = (Control::start(), Marks::start());
-    let fields = shape(bytes).0;
     let named = fields
         .iter()
         .position(|field| field.0 == place)
@@ -809,12 +1040,20 @@ fn count_refused(table: &mut Table, bytes: &[u8], number: u8, place: usize) {
             }
         }
         5 => {
-            let format = control.format != 2 && control.format != 6;
             table.hit("unmodelled (5)", name);
-            table.hit_if(format, "unmodelled (5)", "format");
-            table.hit_if(control.flags & 1 == 0, "unmodelled (5)", "Fp32 off");
-            table.hit_if(control.flags & 2 != 0, "unmodelled (5)", "INT8 on");
-            table.hit_if(control.flags & 4 != 0, "unmodelled (5)", "FP16A on");
+            let known = control.format == 2 || control.format == 6;
+            let rows = [
+                control.flags == 1,
+                known && control.flags == 3,
+                known && control.flags == 5,
+                control.format == 6 && control.flags == 0,
+                !known && control.flags == 0,
+                control.format == 2 && control.flags == 2,
+                control.format == 2 && control.flags == 4,
+            ];
+            for (row, name) in rows.into_iter().zip(UNMODELLED) {
+                table.hit_if(row, "unmodelled (5)", name);
+            }
         }
         6 => match field {
             Field::LoadRows { file, .. } | Field::HandOver { file } => {
@@ -824,7 +1063,32 @@ fn count_refused(table: &mut Table, bytes: &[u8], number: u8, place: usize) {
             _ => table.hit("other owner (6)", name),
         },
         7 => table.hit("Dst row from 512 (7)", name),
-        8 => table.hit("unset (8)", unset(&control, &marks, field)),
+        8 => {
+            let why = unset(&control, &marks, field);
+            table.hit("unset (8)", why);
+            let rows = match *field {
+                Field::OutputRows { first, count } => Some((kind(field), first, count)),
+                Field::Issue { thread, word } if why == UNSET[2] => {
+                    let it = decode(word).expect("a word that breaks only rule 8");
+                    let first = control.dst_sum(thread, it.get("dst")) as usize;
+                    match it.entry.class {
+                        Class::Multiply { rows, mask } => {
+                            Some(("multiply", first & mask as usize, rows))
+                        }
+                        _ => None,
+                    }
+                }
+                _ => None,
+            };
+            if let (Width::Bits16, Some((name, first, count))) = (control.width(), rows) {
+                let rows = first..first + count;
+                let hidden = rows.clone().any(|row| !marks.dst[row])
+                    && rows
+                        .into_iter()
+                        .all(|row| marks.dst[row] || marks.dst[row ^ 512]);
+                table.hit_if(hidden, "16-bit row unset beside a set one (8)", name);
+            }
+        }
         _ => {}
     }
 }
@@ -862,7 +1126,18 @@ pub fn coverage(seed: u64, count: u64) -> (String, Vec<String>) {
             }
         }
     }
-    let passing = table.rows[0].2 as f64 / count.max(1) as f64;
-    text += &format!("share of passing jobs {:.1} %\n", 100.0 * passing);
+    let hits = |group: &'static str, name: &str| {
+        table.rows[table.index[&(group, name.to_string())]].2 as f64
+    };
+    let of = |part: f64, all: f64| 100.0 * part / all.max(1.0);
+    let passing = of(hits("jobs", "passing"), count as f64);
+    text += &format!("share of passing jobs {passing:.1} %\n");
+    let passing = hits("settings of passing jobs", MODES[1]);
+    let all = passing + hits("settings of refused jobs", MODES[1]);
+    text += &format!(
+        "share of jobs with 16-bit Dst rows {:.1} %, of these passing {:.1} %\n",
+        of(all, count as f64),
+        of(passing, all)
+    );
     (text, missing)
 }

@@ -5,8 +5,8 @@
 #![allow(dead_code)]
 
 use super::engine::{
-    decode, entry_of, follow, judge, length_fits, read, Class, Control, Entry, Field, Instruction,
-    Marks, Owner, State, A, B, D, LIMIT, ROWS, TABLE,
+    decode, entry_of, follow, judge, length_fits, read, rows_of, shape, top_of, width_of, Class,
+    Control, Entry, Field, Instruction, Marks, Owner, State, Width, A, B, D, LIMIT, TABLE,
 };
 
 /// splitmix64
@@ -53,7 +53,7 @@ impl Rng {
 
 // ------------------------------------------------------------------------------------- numbers
 
-const STYLES: u32 = 8;
+const STYLES: u32 = 9;
 
 /// A Src value; one style is kept for a whole load, or infinities would drown all else.
 fn datum(rng: &mut Rng, style: u32) -> u32 {
@@ -65,9 +65,13 @@ fn datum(rng: &mut Rng, style: u32) -> u32 {
         5 => rng.pick(&[1, 1, 2, 253, 254, 127]),
         6 if !rng.one_in(4) => 0,
         7 if rng.one_in(20) => rng.pick(&[0, 255]),
+        // Few and far apart, so that sums keep few digits and fall on a rounding's middle.
+        8 if !rng.one_in(4) => 0,
+        8 => 95 + rng.below(33),
         _ => 123 + rng.below(8),
     };
     let m = match rng.below(8) {
+        _ if style == 8 => rng.pick(&[0, 0, 8, 32, 40]),
         0 | 1 => 0,
         2 => 1023,
         3 => 1016,
@@ -78,17 +82,33 @@ fn datum(rng: &mut Rng, style: u32) -> u32 {
     (rng.below(2) << 18) | (e << 10) | m
 }
 
-fn dst_number(rng: &mut Rng) -> u32 {
-    let sign = rng.below(2) << 31;
+/// A Dst number. Both widths have a sign, eight bits of exponent and a mantissa in the rest.
+fn dst_number(rng: &mut Rng, width: Width) -> u32 {
+    let digits = width.bits() - 9;
+    let sign = rng.below(2) << (width.bits() - 1);
+    let (infinity, mantissas) = (255 << digits, 1 << digits);
     match rng.below(16) {
         0 => sign,
-        1 => sign | 0x7F80_0000,
-        2 => sign | 0x7F80_0001 | rng.below(1 << 23),
-        3 => sign | 0x7F7F_FFFF,
-        4 => sign | (1 + rng.below((1 << 23) - 1)),
-        5 => rng.word(),
-        6 => sign | 0x4B80_0000,
-        _ => sign | ((115 + rng.below(24)) << 23) | rng.below(1 << 23),
+        1 => sign | infinity,
+        2 => sign | (infinity + 1 + rng.below(mantissas - 1)),
+        3 => sign | (infinity - 1),
+        4 => sign | (1 + rng.below(mantissas - 1)),
+        5 => rng.word() & width.top(),
+        6 => sign | (151 << digits),
+        _ => sign | ((115 + rng.below(24)) << digits) | rng.below(mantissas),
+    }
+}
+
+/// The datum whose slice in use is a power of two, and 0 where no exponent reaches it.
+fn power(rng: &mut Rng, file: usize, low: bool, exponent: i32) -> u32 {
+    let (m, unit) = match (file, low) {
+        (_, false) => (0, 0),
+        (A, true) => (32, -5),
+        (_, true) => (8, -7),
+    };
+    match exponent - unit + 127 {
+        e @ 1..=254 => (rng.below(2) << 18) | ((e as u32) << 10) | m,
+        _ => 0,
     }
 }
 
@@ -102,7 +122,7 @@ fn register_value(rng: &mut Rng) -> u32 {
     }
 }
 
-/// A lent state; Src numbers have bits above the 19 as well.
+/// A lent state; Src numbers have bits above the 19 as well, Dst has rows for either width.
 pub fn state(rng: &mut Rng) -> State {
     let mut state = State::zero();
     for bank in state.srca.chunks_mut(256).chain(state.srcb.chunks_mut(256)) {
@@ -111,8 +131,14 @@ pub fn state(rng: &mut Rng) -> State {
             *number = datum(rng, style) | (rng.word() << 19);
         }
     }
-    for number in &mut state.dst {
-        *number = dst_number(rng);
+    for row in state.dst.chunks_mut(16) {
+        let width = rng.pick(&Width::ALL);
+        for number in row {
+            *number = match width {
+                Width::Bits32 => dst_number(rng, width),
+                Width::Bits16 => (dst_number(rng, width) << 16) | dst_number(rng, width),
+            };
+        }
     }
     for number in &mut state.registers {
         *number = register_value(rng);
@@ -123,7 +149,7 @@ pub fn state(rng: &mut Rng) -> State {
 /// A record for single steps, sometimes out of range by one number.
 pub fn record(rng: &mut Rng) -> Control {
     let bytes = settings(rng);
-    let Some(Field::Settings(mut record)) = read(1, &bytes[3..]) else {
+    let Some(Field::Settings(mut record)) = read(Width::Bits32, 1, &bytes[3..]) else {
         unreachable!("settings in range");
     };
     for t in &mut record.threads {
@@ -175,7 +201,11 @@ pub fn record(rng: &mut Rng) -> Control {
 
 /// A word for single steps: mostly of the table, sometimes with a bit flipped, sometimes anything.
 pub fn word(rng: &mut Rng) -> u32 {
-    let entry = pick_entry(rng);
+    let entry = if rng.one_in(4) {
+        pick_where(rng, is_multiply)
+    } else {
+        pick_entry(rng)
+    };
     match rng.below(12) {
         0 => rng.word(),
         1 => (u32::from(entry.opcode) << 24) | rng.below(1 << 24),
@@ -196,10 +226,14 @@ fn pair(number: u32) -> [u8; 2] {
 }
 
 fn settings(rng: &mut Rng) -> Vec<u8> {
-    let (format, flags) = match rng.below(8) {
+    let (format, flags) = match rng.below(16) {
         0 => (rng.within(0, 13), rng.below(8)),
-        1 => (rng.within(0, 13), 1),
-        _ => (rng.pick(&[2, 6]), 1),
+        // Not far from the settings that are modelled.
+        1 => (rng.within(0, 13), rng.below(2)),
+        2 => (rng.pick(&[2, 6]), rng.pick(&[0, 2, 3, 4, 5, 6, 7])),
+        3..=7 => (rng.pick(&[2, 6]), 1),
+        // 16-bit rows of Dst.
+        _ => (2, 0),
     };
     let mut payload = vec![format as u8, flags as u8];
     let base = rng.within(0, 1023);
@@ -225,19 +259,26 @@ fn settings(rng: &mut Rng) -> Vec<u8> {
     field(1, &payload)
 }
 
-fn load_rows(rng: &mut Rng, file: usize, first: usize, count: usize) -> Vec<u8> {
+fn load_numbers(file: usize, first: usize, numbers: &[u32]) -> Vec<u8> {
     let mut payload = vec![file as u8];
     payload.extend(pair(first as u32));
-    let style = rng.below(STYLES);
-    for _ in 0..count * 16 {
-        let number = if file == D {
-            dst_number(rng)
-        } else {
-            datum(rng, style)
-        };
-        payload.extend(number.to_le_bytes());
-    }
+    payload.extend(numbers.iter().flat_map(|number| number.to_le_bytes()));
     field(2, &payload)
+}
+
+/// Numbers that may be loaded into a file.
+fn numbers(rng: &mut Rng, width: Width, file: usize, count: usize) -> Vec<u32> {
+    let style = rng.below(STYLES);
+    let mut number = || match file {
+        D => dst_number(rng, width),
+        _ => datum(rng, style),
+    };
+    (0..count).map(|_| number()).collect()
+}
+
+fn load_rows(rng: &mut Rng, width: Width, file: usize, first: usize, count: usize) -> Vec<u8> {
+    let numbers = numbers(rng, width, file, count * 16);
+    load_numbers(file, first, &numbers)
 }
 
 fn load_register(rng: &mut Rng, thread: usize, register: u32) -> Vec<u8> {
@@ -286,6 +327,10 @@ fn pick_where(rng: &mut Rng, holds: impl Fn(&Entry) -> bool) -> &'static Entry {
     }
 }
 
+fn is_multiply(entry: &Entry) -> bool {
+    matches!(entry.class, Class::Multiply { .. })
+}
+
 fn is_scalar(entry: &Entry) -> bool {
     matches!(entry.class, Class::Bitwise | Class::Shift | Class::Compare)
 }
@@ -328,7 +373,7 @@ type Done = Option<()>;
 
 impl Builder<'_> {
     fn push(&mut self, bytes: Vec<u8>) -> Done {
-        let field = read(bytes[0], &bytes[3..]).expect("a field of right shape");
+        let field = read(self.width(), bytes[0], &bytes[3..]).expect("a field of right shape");
         let fits = self.size + bytes.len() <= self.limit;
         if !fits || judge(&self.control, &self.marks, &field) != 0 {
             return None;
@@ -341,6 +386,32 @@ impl Builder<'_> {
 
     fn issue(&mut self, thread: usize, word: u32) -> Done {
         self.push(issue(thread, word))
+    }
+
+    fn width(&self) -> Width {
+        self.control.width()
+    }
+
+    /// Are there halves, and are the rows on both sides of their border set?
+    fn border_is_set(&self) -> bool {
+        self.width() == Width::Bits16 && self.marks.dst[511] && self.marks.dst[512]
+    }
+
+    /// The Dst rows that are set.
+    fn set_rows(&self) -> Vec<usize> {
+        let rows = 0..self.width().rows();
+        rows.filter(|&row| self.marks.dst[row]).collect()
+    }
+
+    /// The first of so many Dst rows: often at an end, of 16-bit rows often across the halves.
+    fn dst_first(&mut self, count: usize) -> usize {
+        let last = self.width().rows() - count;
+        let (low, high) = if last >= 512 && count > 1 && self.rng.one_in(3) {
+            (513usize.saturating_sub(count), 511)
+        } else {
+            (0, last)
+        };
+        self.rng.within(low as u32, high as u32) as usize
     }
 
     fn thread(&mut self) -> usize {
@@ -357,19 +428,18 @@ impl Builder<'_> {
         let file = self.rng.index(2);
         let bytes = match self.rng.below(10) {
             0 => hand_over(file),
-            1 => load_rows(self.rng, file, 16, 1),
+            1 => load_rows(self.rng, self.control.width(), file, 16, 1),
             2 => issue(thread, 0x3700_0000 | (self.rng.below(4) << 22)),
             3..=6 => {
                 let entry = pick_where(self.rng, |e| !e.needs().is_empty());
                 let mut word = compose(self.rng, entry);
-                if let Class::Multiply { .. } = entry.class {
-                    // A row that is set where there is one.
-                    let rows: Vec<u32> = (0..512).filter(|&n| self.marks.dst[n as usize]).collect();
-                    if !rows.is_empty() {
-                        let sum = self.control.dst_sum(thread, 0);
-                        let dst = self.rng.pick(&rows).wrapping_sub(sum) % 1024;
-                        word = set_bits(entry, word, "dst", dst);
-                    }
+                let rows = self.set_rows();
+                if is_multiply(entry) && !rows.is_empty() {
+                    // A row that is set, or the one 512 away: past all rows, or the other half.
+                    let row = self.rng.pick(&rows) ^ self.rng.pick(&[0, 0, 0, 512]);
+                    let sum = self.control.dst_sum(thread, 0);
+                    let dst = (row as u32).wrapping_sub(sum) % 1024;
+                    word = set_bits(entry, word, "dst", dst);
                 }
                 issue(thread, word)
             }
@@ -411,10 +481,19 @@ impl Builder<'_> {
     }
 
     fn load_src(&mut self, file: usize, first: usize, count: usize) -> Done {
+        let numbers = numbers(self.rng, self.control.width(), file, count * 16);
+        self.load_src_numbers(file, first, &numbers)
+    }
+
+    fn load_src_numbers(&mut self, file: usize, first: usize, numbers: &[u32]) -> Done {
         while !self.control.unpackers_have(file) {
             self.clear(file)?;
         }
-        let bytes = load_rows(self.rng, file, first, count);
+        self.push(load_numbers(file, first, numbers))
+    }
+
+    fn load_dst(&mut self, first: usize, count: usize) -> Done {
+        let bytes = load_rows(self.rng, self.control.width(), D, first, count);
         self.push(bytes)
     }
 
@@ -488,7 +567,7 @@ impl Builder<'_> {
             }
             self.issue(thread, word)?;
         }
-        let entry = pick_where(self.rng, |e| matches!(e.class, Class::Multiply { .. }));
+        let entry = pick_where(self.rng, is_multiply);
         let Class::Multiply { rows, mask } = entry.class else {
             return None;
         };
@@ -504,29 +583,104 @@ impl Builder<'_> {
         if self.rng.one_in(8) {
             self.shift_first(thread, B, rows)?;
         }
-        let sum = self.rng.within(0, 511);
+        let sum = self.aim();
         let first = (sum & mask) as usize;
-        let all = first..first + rows;
-        let unset = self.marks.dst[all.clone()].iter().any(|&mark| !mark);
+        let unset = self.marks.dst[first..first + rows]
+            .iter()
+            .any(|&mark| !mark);
         if unset || self.rng.one_in(6) {
             if self.rng.one_in(3) {
                 self.push(zero_rows(first, rows))?;
             } else {
-                let bytes = load_rows(self.rng, D, first, rows);
-                self.push(bytes)?;
+                self.load_dst(first, rows)?;
             }
         }
-        // The dst field that leads to this sum, all 14 bits in use.
+        self.multiply_into(thread, entry, sum)
+    }
+
+    /// A sum of base, offset, counter and dst field that leads inside Dst; of 16-bit rows now and
+    /// then to the other half of rows written before.
+    fn aim(&mut self) -> u32 {
+        let top = self.width().rows() as u32 - 1;
+        let written = &self.written[0];
+        if self.width() == Width::Bits16 && !written.is_empty() && self.rng.one_in(3) {
+            self.rng.pick(written) as u32 ^ 512
+        } else {
+            self.rng.within(0, top)
+        }
+    }
+
+    /// A multiply with the dst field that leads to a sum, all its 14 bits in use.
+    fn multiply_into(&mut self, thread: usize, entry: &'static Entry, sum: u32) -> Done {
+        let Class::Multiply { rows, mask } = entry.class else {
+            return None;
+        };
+        let first = (sum & mask) as usize;
         let dst = sum.wrapping_sub(self.control.dst_sum(thread, 0)) % 1024;
         let dst = dst + 1024 * self.rng.below(16);
         let word = compose(self.rng, entry);
         self.issue(thread, set_bits(entry, word, "dst", dst))?;
-        self.written[0].extend(all);
+        self.written[0].extend(first..first + rows);
         // The same once more, as the clear and slot before it left the record.
         if self.rng.one_in(3) {
             self.issue(thread, set_bits(entry, word, "dst", dst))?;
         }
         Some(())
+    }
+
+    /// A multiply on the edge of both roundings: to old numbers of one exponent it adds about half
+    /// a BF16 unit in the last place, and about half a binary32 one.
+    fn halfway(&mut self) -> Done {
+        let thread = self.focus;
+        let entry = pick_where(self.rng, is_multiply);
+        let Class::Multiply { rows, mask } = entry.class else {
+            return None;
+        };
+        if !self.control.modelled() {
+            return None;
+        }
+        let (width, phase) = (self.width(), self.control.phase(thread));
+        let between = self.rng.below(254) as i32 - 126;
+        let x = self.rng.pick(&[-126, -126, -125, 0, 127, 127, between]);
+        // SrcB holds the same power in columns 0 and 1, so that SrcA's rows 0 and 1 decide.
+        let (mut a, mut b) = (vec![0; 256], vec![0; rows * 16]);
+        for column in 0..16 {
+            let halves = [
+                x - 8 + self.rng.pick(&[0, 0, 0, 0, -1, 1]),
+                x - 24 + self.rng.below(6) as i32 - 3,
+            ];
+            for (k, exponent) in halves.into_iter().enumerate() {
+                a[k * 16 + column] = power(self.rng, A, phase & 1 == 1, exponent - x / 2);
+            }
+        }
+        for row in 0..rows {
+            for k in 0..2 {
+                if !self.rng.one_in(4) {
+                    b[row * 16 + k] = power(self.rng, B, phase >> 1 == 1, x / 2);
+                }
+            }
+        }
+        let digits = width.bits() - 9;
+        let mantissas = 1 << digits;
+        let old: Vec<u32> = (0..rows * 16)
+            .map(|_| {
+                let e = match x {
+                    -126 => self.rng.below(2),
+                    _ => (x + 127) as u32,
+                };
+                let m = self.rng.within(0, mantissas - 1);
+                let last_zeros = self.rng.pick(&[0, width.bits() - 16]);
+                let m = (m >> last_zeros) << last_zeros;
+                (self.rng.below(2) << (width.bits() - 1)) | (e << digits) | m
+            })
+            .collect();
+        self.load_src_numbers(A, self.control.a_row(thread), &a)?;
+        self.pass_on(A)?;
+        self.load_src_numbers(B, self.control.b_row(thread), &b)?;
+        self.pass_on(B)?;
+        let sum = self.aim();
+        self.push(load_numbers(D, (sum & mask) as usize, &old))?;
+        self.multiply_into(thread, entry, sum)
     }
 
     /// Counters on the move by slots alone; the multiply after it shows where they went.
@@ -614,10 +768,11 @@ impl Builder<'_> {
                 self.unprepared()
             };
         }
-        match self.rng.below(20) {
+        match self.rng.below(22) {
             0..=5 => self.multiply(),
             18 => self.walk(),
             19 => self.both_banks(),
+            20 | 21 => self.halfway(),
             6 => {
                 let entry = pick_where(self.rng, |e| e.class == Class::Legacy);
                 self.own(A)?;
@@ -649,20 +804,22 @@ impl Builder<'_> {
                 self.push(bytes)
             }
             15 => {
-                let file = self.rng.index(3);
+                let file = self.rng.pick(&[A, B, D, D]);
                 let count = self.rng.pick(&[1, 1, 2, 8]);
-                let first = self.rng.within(0, (ROWS[file] - count) as u32) as usize;
                 if file == D {
-                    let bytes = load_rows(self.rng, D, first, count);
-                    self.push(bytes)
+                    let first = self.dst_first(count);
+                    self.load_dst(first, count)
                 } else {
+                    let first = self.rng.within(0, (64 - count) as u32) as usize;
                     self.load_src(file, first, count)
                 }
             }
             16 => self.push(hand_over(file)),
             _ => {
-                let count = self.rng.within(1, 512) as usize;
-                let first = self.rng.within(0, (512 - count) as u32) as usize;
+                let rows = self.width().rows() as u32;
+                let highest = self.rng.pick(&[16, rows, rows]);
+                let count = self.rng.within(1, highest) as usize;
+                let first = self.dst_first(count);
                 self.push(zero_rows(first, count))
             }
         }
@@ -670,7 +827,7 @@ impl Builder<'_> {
 
     fn outputs(&mut self) {
         self.limit += RESERVE;
-        let rows: Vec<usize> = (0..512).filter(|&row| self.marks.dst[row]).collect();
+        let rows = self.set_rows();
         let mut registers: Vec<usize> = (0..192)
             .filter(|&n| self.marks.registers[n / 64][n % 64])
             .collect();
@@ -685,13 +842,18 @@ impl Builder<'_> {
             let set = if of_rows { &rows } else { &registers };
             // What an instruction wrote says most.
             let written = &self.written[usize::from(!of_rows)];
-            let n = if written.is_empty() || self.rng.one_in(4) {
+            let mut n = if written.is_empty() || self.rng.one_in(4) {
                 self.rng.pick(set)
             } else {
                 self.rng.pick(written)
             };
             let _ = if of_rows {
-                let run = (n..512).take_while(|&row| self.marks.dst[row]).count();
+                if self.border_is_set() && self.rng.one_in(3) {
+                    let before = (448..512).rev().take_while(|&row| self.marks.dst[row]);
+                    n = 512 - self.rng.within(1, before.count() as u32) as usize;
+                }
+                let run = (n..self.width().rows()).take_while(|&row| self.marks.dst[row]);
+                let run = run.count();
                 let count = self.rng.within(1, run.min(64) as u32) as usize;
                 self.push(output_rows(n, count))
             } else {
@@ -718,6 +880,8 @@ fn build(rng: &mut Rng, wild: bool) -> Vec<Vec<u8>> {
         written: [Vec::new(), Vec::new()],
     };
     let _ = builder.push(first);
+    // Without a multiply that passes, one that is refused shows more.
+    builder.wild |= !builder.control.modelled() && builder.rng.one_in(2);
     for _ in 0..builder.rng.below(30) {
         let _ = builder.action();
     }
@@ -737,7 +901,7 @@ pub struct Ranged {
 }
 
 /// The name of each ranged number that a job can hold.
-pub const RANGES: [&str; 20] = [
+pub const RANGES: [&str; 27] = [
     "format",
     "flags",
     "base",
@@ -749,16 +913,42 @@ pub const RANGES: [&str; 20] = [
     "Dst step",
     "fidelity step",
     "file of a load",
-    "first row of a load",
+    "first row of a Src load",
     "Src value",
     "file of a hand over",
     "thread",
     "register",
-    "first row of an output",
-    "count of an output",
-    "first row of zeroing",
-    "count of zeroing",
+    DST_RANGES[0][0],
+    DST_RANGES[0][1],
+    DST_RANGES[0][2],
+    DST_RANGES[0][3],
+    DST_RANGES[0][4],
+    DST_RANGES[1][0],
+    DST_RANGES[1][1],
+    DST_RANGES[1][2],
+    DST_RANGES[1][3],
+    DST_RANGES[1][4],
+    BF16_VALUE,
 ];
+
+/// Those of Dst rows, by width.
+const DST_RANGES: [[&str; 5]; 2] = [
+    [
+        "first 32-bit row of a load",
+        "first 32-bit row of an output",
+        "count of 32-bit rows of an output",
+        "first 32-bit row of zeroing",
+        "count of 32-bit rows of zeroing",
+    ],
+    [
+        "first 16-bit row of a load",
+        "first 16-bit row of an output",
+        "count of 16-bit rows of an output",
+        "first 16-bit row of zeroing",
+        "count of 16-bit rows of zeroing",
+    ],
+];
+const BF16_VALUE: &str = "16-bit Dst value";
 
 fn number_at(field: &[u8], at: usize, size: usize) -> u32 {
     (0..size).map(|n| u32::from(field[at + n]) << (8 * n)).sum()
@@ -770,9 +960,11 @@ impl Ranged {
     }
 }
 
-/// All ranged numbers of a raw field of right length. A first row's range ends where the rows
-/// would leave their file.
-pub fn ranged(field: &[u8]) -> Vec<Ranged> {
+/// All ranged numbers of a raw field of right length, under a width of Dst. A first row's range
+/// ends where the rows would leave their file.
+pub fn ranged(width: Width, field: &[u8]) -> Vec<Ranged> {
+    let names = &DST_RANGES[width as usize];
+    let dst_rows = width.rows() as u32;
     let mut list = Vec::new();
     let mut add = |name, at: usize, size, low, high| {
         list.push(Ranged {
@@ -805,18 +997,19 @@ pub fn ranged(field: &[u8]) -> Vec<Ranged> {
         2 => {
             let rows = (field.len() - 6) / 64;
             add("file of a load", 0, 1, 0, 2);
-            if let Some(limit) = ROWS.get(field[3] as usize) {
-                add(
-                    "first row of a load",
-                    1,
-                    2,
-                    0,
-                    limit.saturating_sub(rows) as u32,
-                );
-            }
-            if field[3] < 2 {
+            let file = field[3] as usize;
+            if file <= D {
+                let (name, value) = match file {
+                    D => (names[0], BF16_VALUE),
+                    _ => ("first row of a Src load", "Src value"),
+                };
+                let last = rows_of(file, width).saturating_sub(rows) as u32;
+                add(name, 1, 2, 0, last);
+                // 32 bits hold no value past the highest.
                 for n in 0..rows * 16 {
-                    add("Src value", 3 + 4 * n, 4, 0, 0x7FFFF);
+                    if top_of(file, width) < u32::MAX {
+                        add(value, 3 + 4 * n, 4, 0, top_of(file, width));
+                    }
                 }
             }
         }
@@ -828,33 +1021,50 @@ pub fn ranged(field: &[u8]) -> Vec<Ranged> {
         5 => add("thread", 0, 1, 0, 2),
         6 => {
             let count = number_at(field, 5, 1);
-            add("first row of an output", 0, 2, 0, 512 - count.min(64));
-            add("count of an output", 2, 1, 1, 64);
+            add(names[1], 0, 2, 0, dst_rows - count.min(64));
+            add(names[2], 2, 1, 1, 64);
         }
         8 => {
             let count = number_at(field, 5, 2);
-            add("first row of zeroing", 0, 2, 0, 512 - count.min(512));
-            add("count of zeroing", 2, 2, 1, 512);
+            add(names[3], 0, 2, 0, dst_rows - count.min(dst_rows));
+            add(names[4], 2, 2, 1, dst_rows);
         }
         _ => {}
     }
     list
 }
 
+/// Dst's width under the settings that raw fields begin with.
+fn raw_width(fields: &[Vec<u8>]) -> Width {
+    let settings = fields.first().filter(|field| field[0] == 1);
+    let settings = settings.and_then(|field| read(Width::Bits32, 1, &field[3..]));
+    width_of(&settings.map_or(Vec::new(), |field| vec![(0, field)]))
+}
+
 /// Puts one ranged number on an end of its range, or one past it.
 fn to_edge(rng: &mut Rng, fields: &mut [Vec<u8>]) {
-    // By name first, as a load has hundreds of values and but one first row.
-    let name = rng.pick(&RANGES);
+    let width = raw_width(fields);
     let mut found = Vec::new();
     for (n, bytes) in fields.iter().enumerate() {
         if length_fits(bytes[0], bytes.len() - 3) {
-            let list = ranged(bytes).into_iter().filter(|range| range.name == name);
-            found.extend(list.map(|range| (n, range)));
+            found.extend(ranged(width, bytes).into_iter().map(|range| (n, range)));
         }
     }
-    if found.is_empty() {
+    // By name first, as a load has hundreds of values and but one first row.
+    let has = |name: &&str| found.iter().any(|(_, range)| range.name == *name);
+    let names: Vec<&str> = RANGES.into_iter().filter(has).collect();
+    if names.is_empty() {
         return;
     }
+    // Every job has settings, and many have little of Dst.
+    let of_dst = |name: &&str| *name == BF16_VALUE || DST_RANGES.concat().contains(name);
+    let dst: Vec<&str> = names.iter().copied().filter(of_dst).collect();
+    let name = if dst.is_empty() || rng.one_in(2) {
+        rng.pick(&names)
+    } else {
+        rng.pick(&dst)
+    };
+    found.retain(|(_, range)| range.name == name);
     let (n, range) = &found[rng.index(found.len())];
     let value = match rng.below(6) {
         0 => range.low,
@@ -925,7 +1135,8 @@ fn grow(rng: &mut Rng, fields: &mut Vec<Vec<u8>>, size: usize) {
         .iter()
         .position(|f| f[0] == 6 || f[0] == 7)
         .unwrap_or(fields.len());
-    let (thread, register, row) = (rng.index(3), rng.below(64), rng.index(512));
+    let rows = raw_width(fields).rows();
+    let (thread, register, row) = (rng.index(3), rng.below(64), rng.index(rows));
     fields.insert(outputs, load_register(rng, thread, register));
     fields.insert(outputs, zero_rows(row, 1));
     let mut room = size.saturating_sub(fields.iter().map(Vec::len).sum());
@@ -959,14 +1170,15 @@ fn damage(rng: &mut Rng, fields: &mut Vec<Vec<u8>>) {
     let thread = rng.index(3);
     let file = rng.index(2);
     let any = rng.index(fields.len());
+    let width = raw_width(fields);
     let of_tag = |rng: &mut Rng, tags: &[u8]| {
         let found: Vec<usize> = (0..fields.len())
             .filter(|&n| tags.contains(&fields[n][0]))
             .collect();
         (!found.is_empty()).then(|| rng.pick(&found))
     };
-    match rng.below(26) {
-        0..=3 | 24 | 25 => fields.insert(middle, issue(thread, bad_word(rng))),
+    match rng.below(32) {
+        0..=3 | 24 | 25 | 30 | 31 => fields.insert(middle, issue(thread, bad_word(rng))),
         // Multiplies under settings that are not modelled.
         4 | 5 => {
             let (format, flags) = (rng.within(0, 13) as u8, rng.below(8) as u8);
@@ -979,7 +1191,7 @@ fn damage(rng: &mut Rng, fields: &mut Vec<Vec<u8>>) {
                 *byte = value;
             }
             if rng.one_in(2) {
-                let entry = pick_where(rng, |e| matches!(e.class, Class::Multiply { .. }));
+                let entry = pick_where(rng, is_multiply);
                 fields.insert(middle, issue(thread, compose(rng, entry)));
             }
         }
@@ -994,7 +1206,7 @@ fn damage(rng: &mut Rng, fields: &mut Vec<Vec<u8>>) {
                 fields.insert(middle, hand_over(file));
             }
             if rng.one_in(2) {
-                fields.insert(middle + 2, load_rows(rng, file, 5, 1));
+                fields.insert(middle + 2, load_rows(rng, width, file, 5, 1));
             }
         }
         8 | 9 => {
@@ -1005,7 +1217,7 @@ fn damage(rng: &mut Rng, fields: &mut Vec<Vec<u8>>) {
                 issue(thread, compose(rng, entry)),
             );
         }
-        // Dst rows from 512 on.
+        // Dst rows from 512 on, or the other half of a 16-bit row's lent row.
         10 | 11 => {
             let multiply = |field: &Vec<u8>| {
                 let opcode = field.get(7).copied().unwrap_or(0);
@@ -1038,7 +1250,8 @@ fn damage(rng: &mut Rng, fields: &mut Vec<Vec<u8>>) {
         }
         14 => {
             let count = 1 + rng.index(64);
-            let rows = output_rows(rng.within(0, (512 - count) as u32) as usize, count);
+            let last = (width.rows() - count) as u32;
+            let rows = output_rows(rng.within(0, last) as usize, count);
             let register = output_register(thread, rng.index(64));
             fields.push(if rng.one_in(2) { rows } else { register });
         }
@@ -1091,21 +1304,56 @@ fn damage(rng: &mut Rng, fields: &mut Vec<Vec<u8>>) {
                 let count = rng.pick(&[0, 65]);
                 let file = rng.pick(&[file, D]);
                 fields.truncate(1);
-                fields.push(load_rows(rng, file, 0, count));
+                fields.push(load_rows(rng, width, file, 0, count));
                 fields.push(output_register(0, 0));
             }
         },
         22 => fields[any][0] = rng.pick(&[0, 9, 10, 255, 1, 2, 3, 4, 5, 6, 7, 8]),
+        // A Dst number of more than 16 bits.
+        26 => {
+            let is_dst = |f: &Vec<u8>| f[0] == 2 && f.len() >= 70 && f[3] == D as u8;
+            let loads: Vec<usize> = (0..fields.len()).filter(|&n| is_dst(&fields[n])).collect();
+            if !loads.is_empty() {
+                let load = &mut fields[rng.pick(&loads)];
+                let at = 6 + 4 * rng.index((load.len() - 6) / 4);
+                let number = number_at(load, at, 4);
+                let number = match rng.below(3) {
+                    0 => number << 16 | 1 << 30,
+                    1 => number | 1 << (16 + rng.below(16)),
+                    _ => dst_number(rng, Width::Bits32),
+                };
+                load[at..at + 4].copy_from_slice(&number.to_le_bytes());
+            }
+        }
+        // Dst rows in the other half.
+        29 => {
+            let tags = rng.pick(&[&[6][..], &[2, 6, 8]]);
+            let rows = of_tag(rng, tags).map(|n| &mut fields[n]);
+            if let Some(field) = rows.filter(|field| field.len() > 5) {
+                let high_byte = if field[0] == 2 { 5 } else { 4 };
+                field[high_byte] ^= 2;
+            }
+        }
+        // The same fields under the other width, or beside both.
+        27 | 28 => {
+            if let Some(settings) = fields.first_mut().filter(|field| field.len() == 163) {
+                match rng.below(3) {
+                    0 => settings[3] ^= 4,
+                    _ => settings[4] ^= rng.pick(&[1, 1, 2, 4]),
+                }
+            }
+        }
         _ => {
             // A whole file of 64 rows, and a load that ends at a file's last row.
             let file = rng.pick(&[A, B, D]);
             let count = rng.pick(&[64, 64, 3]);
+            let first = rows_of(file, width) - count;
             fields.truncate(1);
-            fields.push(load_rows(rng, file, ROWS[file] - count, count));
+            fields.push(load_rows(rng, width, file, first, count));
             fields.push(load_register(rng, 2, 63));
             fields.push(output_register(2, 63));
             if file == D {
-                fields.push(output_rows(512 - count, count));
+                fields.push(output_rows(first, count));
             }
         }
     }
@@ -1162,4 +1410,25 @@ pub fn job(rng: &mut Rng) -> Vec<u8> {
             job
         }
     }
+}
+
+/// The same job with other values in its load fields, each as its field allows; behind the first
+/// wrong place it stays as it is.
+pub fn reload(rng: &mut Rng, job: &[u8]) -> Vec<u8> {
+    let mut bytes = job.to_vec();
+    let fields = shape(job).0;
+    let width = width_of(&fields);
+    for (place, field) in fields {
+        let (at, values) = match field {
+            Field::LoadRows {
+                file, numbers: old, ..
+            } => (place + 6, numbers(rng, width, file, old.len())),
+            Field::LoadRegister { .. } => (place + 5, vec![register_value(rng)]),
+            _ => continue,
+        };
+        for (n, value) in values.into_iter().enumerate() {
+            bytes[at + 4 * n..][..4].copy_from_slice(&value.to_le_bytes());
+        }
+    }
+    bytes
 }

@@ -19,7 +19,7 @@ use Rattle.rules.specs.declared.Verdict.{Verdict}
 use Rattle.rules.specs.declared.Verdict.the-variants as verdict
 use Rattle.step.specs.State.{State, sized}
 use Rattle.step.specs.Step.{steppedOf, stepAnswer}
-use Rattle.job.specs.Fields.{fieldAt, fieldsFrom}
+use Rattle.job.specs.Fields.{jobWidth, fieldAt, fieldsFrom}
 use Rattle.job.specs.Shape.{classOf, stageAfter, shapeFrom, shapeOf}
 use Rattle.job.specs.declared.Field.{Field}
 use Rattle.job.specs.declared.Shape.{Shape}
@@ -131,7 +131,7 @@ unfolding precheckAnswer
 precheck-small job = go (shapeOf job) refl (shape-of-small job)
   where
     go : (x : Shape) → shapeOf job ≡ x → SmallShape x → Small (checkedAnswer (precheckOf job))
-    go shape.Right e s = rw (precheck-right job e) (check-small job (fieldsFrom job 0) start unset 0 (inside job (shaped job e .short)))
+    go shape.Right e s = rw (precheck-right job e) (check-small job (fieldsFrom job 0) start (unset (jobWidth job)) 0 (inside job (shaped job e .short)))
     go (shape.WrongAt place) e s = rw (precheck-wrong job place e) (number-small refusal.Shape, s)
 
 -- ---- the run

@@ -1,22 +1,27 @@
 -- Two lent states that agree where the marks say set: what keeps them so. Assumes nothing.
-use mathlib.Core.Path.{_≡_, refl, sym, ap₂, _∙_}
+use mathlib.Core.Path.{_≡_, refl, sym, ap₂, subst}
 use mathlib.Core.Bool.{Bool, true, false, cond}
 use mathlib.Core.List.{List, [], _∷_}
 use Prim.Native.Nat.{ℕ, zero, _+_, _-_, _/_, _%_, _<_}
 use native.Mathlib.Omega.{arith}
-use lib.ListN.{length, getD}
-use lib.Dec.{ltb, eqb}
-use borrow.Author.Tests.{ltb-true, ltb-false, eqb-false}
+use lib.ListN.{getD}
+use lib.Dec.{eqb}
+use borrow.Author.Tests.{eqb-false}
 use Rattle.cells.specs.declared.Span.{Span}
-use Rattle.cells.specs.Cells.{over, inSpan, noSpan, cell, overSpan}
-use Rattle.cells.proofs.Cells.{split, length-over, over-in, over-out, over-past, over-false, over-true, over-none, within-true, between-in, between-after}
+use Rattle.cells.specs.declared.Width.{Width}
+use Rattle.cells.specs.declared.Width.the-variants.{Bits32}
+use Rattle.cells.specs.Cells.{inSpan, noSpan, cell, overSpan}
+use Rattle.cells.specs.Places.{getAt}
+use Rattle.cells.proofs.Cells.{split, over-true, over-none, within-true, between-in, between-after}
+use Rattle.cells.proofs.Same.{Same, over-same, fewer, drop-same, number-same, numbers-over}
 use Rattle.cells.proofs.Tests.{each-of, below-of}
 use Rattle.word.specs.declared.ShiftB.{ShiftB}
 use Rattle.word.specs.declared.Scalar.{Scalar}
-use Rattle.word.specs.declared.Multiply.{Multiply}
 use Rattle.word.specs.declared.Fields.{Fields}
 use Rattle.word.specs.declared.Fields.the-variants as fields
 use Rattle.control.specs.declared.Control.{Control}
+use Rattle.control.specs.Record.{widthOf}
+use Rattle.product.specs.declared.Product.{Product}
 use Rattle.product.specs.Product.{rowsA, rowsB, rowsD, multiplied}
 use Rattle.product.proofs.Laws.{multiplied-agrees}
 use Rattle.rules.specs.declared.Reads.{Reads}
@@ -25,15 +30,9 @@ use Rattle.rules.specs.Rows.{bankRow, register, span, filledA, filledB, shifted
 use Rattle.rules.specs.Access.{noSets, noUnsets, scalarRight, fieldsRead, fieldsSet, fieldsUnset}
 use Rattle.step.specs.State.{State}
 use Rattle.step.specs.Effect.{productOf, rightward, leftward, shiftA, shiftB, scalarOf, operandB, scalarResult, scalar, fieldsEffect}
-use Rattle.precheck.specs.Marks.{Marks}
-use Rattle.precheck.specs.Marks.{allSet, readsSet, instructionMarks}
+use Rattle.precheck.specs.Marks.{Marks, allSet, readsSet, instructionMarks}
 
--- two lists of n numbers that agree at each place whose row is marked
-pub record Same (row : ℕ → ℕ) (n : ℕ) (m : List Bool) (d e : List ℕ) : Type 0 where
-  pub left : length d ≡ n
-  pub right : length e ≡ n
-  pub same : (i : ℕ) → getD m (row i) false ≡ true → getD d i 0 ≡ getD e i 0
-
+-- the mark of a place: its row's, or its own
 abbrev pub byRow : ℕ → ℕ
 byRow i = i / 16
 
@@ -48,48 +47,27 @@ set-at m s r h q =
     let e : s .first + (r - s .first) ≡ r = omega arith in
     rw e at (below-of (λ (i : ℕ). getD m (s .first + i) false) (s .count) h (r - s .first) (omega arith))
 
-module _ (row : ℕ → ℕ) (n : ℕ) (m : List Bool) (d e : List ℕ) (s : Same row n m d e) where
-  -- the same rows overwritten with the same numbers, and marked
-  pub over-same : (p : ℕ → Bool) (f g : ℕ → ℕ) → ((i : ℕ) → p (row i) ≡ true → f i ≡ g i)
-      → Same row n (over p (λ r. true) m) (over (λ i. p (row i)) f d) (over (λ i. p (row i)) g e)
-  over-same p f g h =
-      record {
-        left = length-over _ f d ∙ s .left;
-        right = length-over _ g e ∙ s .right;
-        same = λ i t. split (p (row i))
-            (λ q. split (ltb i n)
-            (λ b. let l = ltb-true i n b in over-in _ f d i 0 q (omega (arith, s .left)) ∙ h i q ∙ sym (over-in _ g e i 0 q (omega (arith, s .right))))
-            (λ b. let l = ltb-false i n b in over-past _ f d i 0 (omega (arith, s .left)) ∙ sym (over-past _ g e i 0 (omega (arith, s .right)))))
-            (λ q. over-out _ f d i 0 q ∙ s .same i (sym (over-out p (λ r. true) m (row i) false q) ∙ t) ∙ sym (over-out _ g e i 0 q));
-      }
-
-  -- a span of them, whatever the states are
-  pub written : (x : Span) (f : ℕ → ℕ) → Same row n (overSpan x true m) (over (λ i. inSpan x (row i)) f d) (over (λ i. inSpan x (row i)) f e)
-  written x f = over-same (inSpan x) f f (λ i q. refl)
-
-  -- fewer marks
-  pub fewer : (l : List Bool) → ((r : ℕ) → getD l r false ≡ true → getD m r false ≡ true) → Same row n l d e
-  fewer l h = record { left = s .left; right = s .right; same = λ i t. s .same i (h (row i) t) }
-
-  -- some taken away
-  pub drop-same : (p : ℕ → Bool) → Same row n (over p (λ r. false) m) d e
-  drop-same p = fewer _ (over-false p m)
-
-  -- what stands in rows that are all set is the same
-  pub read-same : (x : Span) → allSet m x ≡ true → (i : ℕ) → inSpan x (row i) ≡ true → getD d i 0 ≡ getD e i 0
-  read-same x h i q = s .same i (set-at m x (row i) h q)
-
 -- ---- what is read where the marks say set is the same
 
-module _ (n : ℕ) (m : List Bool) (d e : List ℕ) (s : Same byRow n m d e) where
-  pub cell-same : (r j : ℕ) → j < 16 → getD m r false ≡ true → getD d (cell r j) 0 ≡ getD e (cell r j) 0
-  cell-same r j h t = let q : cell r j / 16 ≡ r = omega arith in s .same (cell r j) (rw q t)
+-- a column of a row, whatever the width
+pub cell-same : (w : Width) (n : ℕ) (m : List Bool) (d e : List ℕ) → Same w byRow n m d e → (r j : ℕ) → j < 16 → getD m r false ≡ true
+    → getAt w d (cell r j) ≡ getAt w e (cell r j)
+cell-same w n m d e s r j h t = let q : cell r j / 16 ≡ r = omega arith in s .same (cell r j) (rw q t)
+
+module _ (n : ℕ) (m : List Bool) (d e : List ℕ) (s : Same Bits32 byRow n m d e) where
+  -- of the files with 32-bit numbers alone
+  rows-same : (x : Span) → allSet m x ≡ true → (i : ℕ) → inSpan x (i / 16) ≡ true → getD d i 0 ≡ getD e i 0
+  rows-same x h i q = number-same byRow n m d e s i (set-at m x (i / 16) h q)
+
+  number-cell : (r j : ℕ) → j < 16 → getD m r false ≡ true → getD d (cell r j) 0 ≡ getD e (cell r j) 0
+  unfolding getAt
+  number-cell r j h t = cell-same Bits32 n m d e s r j h t
 
   rightward-same : (r j : ℕ) → j < 16 → getD m r false ≡ true → rightward d r j ≡ rightward e r j
-  rightward-same r j h t = split (eqb j 0) (λ q. rw q) (λ q. rw q (cell-same r (j - 1) (omega arith) t))
+  rightward-same r j h t = split (eqb j 0) (λ q. rw q) (λ q. rw q (number-cell r (j - 1) (omega arith) t))
 
   leftward-same : (x y : ℕ) → x ≡ y → (r j : ℕ) → j < 16 → getD m r false ≡ true → leftward x d r j ≡ leftward y e r j
-  leftward-same x y p r j h t = split (eqb j 15) (λ q. rw q p) (λ q. rw q (cell-same r (j + 1) (omega (arith, eqb-false j 15 q)) t))
+  leftward-same x y p r j h t = split (eqb j 15) (λ q. rw q p) (λ q. rw q (number-cell r (j + 1) (omega (arith, eqb-false j 15 q)) t))
 
   shifted-same : (right : Bool) (r j : ℕ) → j < 16 → getD m r false ≡ true
       → cond right (rightward d r j) (leftward 0 d r j) ≡ cond right (rightward e r j) (leftward 0 e r j)
@@ -99,31 +77,31 @@ module _ (n : ℕ) (m : List Bool) (d e : List ℕ) (s : Same byRow n m d e) whe
   -- SHIFTXB's new column 15
   end-same : (zero : Bool) (r : ℕ) → getD m r false ≡ true → cond zero 0 (getD d (cell r 0) 0) ≡ cond zero 0 (getD e (cell r 0) 0)
   end-same true r t = refl
-  end-same false r t = cell-same r 0 (omega arith) t
+  end-same false r t = number-cell r 0 (omega arith) t
 
 -- no mark set, some taken away
-kept-same : (row : ℕ → ℕ) (n : ℕ) (m : List Bool) (d e : List ℕ) → Same row n m d e → (u : Span) → Same row n (overSpan u false (overSpan noSpan true m)) d e
+kept-same : (row : ℕ → ℕ) (n : ℕ) (m : List Bool) (d e : List ℕ) → Same Bits32 row n m d e → (u : Span) → Same Bits32 row n (overSpan u false (overSpan noSpan true m)) d e
 kept-same row n m d e s u =
-    rw (over-none (inSpan noSpan) (λ r. true) false m (λ r. between-after 0 0 r (omega arith))) (drop-same row n m d e s (inSpan u))
+    rw (over-none (inSpan noSpan) (λ r. true) false m (λ r. between-after 0 0 r (omega arith))) (drop-same Bits32 row n m d e s (inSpan u))
 
 -- a span of one
 pub one-set : (m : List Bool) (r : ℕ) → allSet m (span r 1) ≡ true → getD m r false ≡ true
 one-set m r h = set-at m (span r 1) r h (between-in r (r + 1) r (omega arith) (omega arith))
 
--- ---- the four files
+-- ---- the four files, with Dst's rows of width w
 
-pub record Agree (m : Marks) (d e : State) : Type 0 where
-  pub srca : Same byRow 2048 (m .srca) (d .srca) (e .srca)
-  pub srcb : Same byRow 2048 (m .srcb) (d .srcb) (e .srcb)
-  pub dst : Same byRow 8192 (m .dst) (d .dst) (e .dst)
-  pub registers : Same alone 192 (m .registers) (d .registers) (e .registers)
+pub record Agree (w : Width) (m : Marks) (d e : State) : Type 0 where
+  pub srca : Same Bits32 byRow 2048 (m .srca) (d .srca) (e .srca)
+  pub srcb : Same Bits32 byRow 2048 (m .srcb) (d .srcb) (e .srcb)
+  pub dst : Same w byRow 8192 (m .dst) (d .dst) (e .dst)
+  pub registers : Same Bits32 alone 192 (m .registers) (d .registers) (e .registers)
 
-turned : {row : ℕ → ℕ} {n : ℕ} {m : List Bool} {d e : List ℕ} → Same row n m d e → Same row n m e d
+turned : {w : Width} {row : ℕ → ℕ} {n : ℕ} {m : List Bool} {d e : List ℕ} → Same w row n m d e → Same w row n m e d
 turned s = record { left = s .right; right = s .left; same = λ i t. sym (s .same i t) }
 
 -- the other way round
-pub swap : (m : Marks) (d e : State) → Agree m d e → Agree m e d
-swap m d e s = record { srca = turned (s .srca); srcb = turned (s .srcb); dst = turned (s .dst); registers = turned (s .registers) }
+pub swap : (w : Width) (m : Marks) (d e : State) → Agree w m d e → Agree w m e d
+swap w m d e s = record { srca = turned (s .srca); srcb = turned (s .srcb); dst = turned (s .dst); registers = turned (s .registers) }
 
 -- all that an instruction reads is set
 record Read (m : Marks) (r : Reads) : Type 0 where
@@ -141,9 +119,9 @@ all-read m r h =
 
 -- ---- each instruction keeps the agreement
 
-module _ (m : Marks) (d e : State) (s : Agree m d e) where
+module _ (w : Width) (m : Marks) (d e : State) (s : Agree w m d e) where
   -- one that changes no number
-  idle-agrees : (u : Unsets) → Agree (instructionMarks m noSets u) d e
+  idle-agrees : (u : Unsets) → Agree w (instructionMarks m noSets u) d e
   unfolding instructionMarks
   idle-agrees u =
       record {
@@ -153,24 +131,26 @@ module _ (m : Marks) (d e : State) (s : Agree m d e) where
         registers = rw (over-none (inSpan noSpan) (λ r. true) false (m .registers) (λ r. between-after 0 0 r (omega arith))) (s .registers);
       }
 
-  multiply-same : (c : Control) (t : ℕ) (x : Multiply) → Read m (fieldsRead c t (fields.Multiply x))
-      → Same byRow 8192 (m .dst) (multiplied (productOf c t x) (d .srca) (d .srcb) (d .dst)) (multiplied (productOf c t x) (e .srca) (e .srcb) (e .dst))
-  unfolding fieldsRead multiplied productOf
-  multiply-same c t x h =
-      let p = productOf c t x in
-      fewer byRow 8192 _ _ _ (over-same byRow 8192 (m .dst) (d .dst) (e .dst) (s .dst) (inSpan (rowsD p)) _ _
-      (λ i q. multiplied-agrees p (d .srca) (e .srca) (d .srcb) (e .srcb)
-      (read-same byRow 2048 (m .srca) (d .srca) (e .srca) (s .srca) (rowsA p) (h .a))
-      (read-same byRow 2048 (m .srcb) (d .srcb) (e .srcb) (s .srcb) (rowsB p) (h .b))
-      (d .dst) (e .dst) i q
-      (read-same byRow 8192 (m .dst) (d .dst) (e .dst) (s .dst) (rowsD p) (h .dst) i q)))
-      (m .dst) (over-true (inSpan (rowsD p)) (m .dst))
+  -- a multiply over rows of the width w
+  multiply-same : (p : Product) → p .width ≡ w → allSet (m .srca) (rowsA p) ≡ true → allSet (m .srcb) (rowsB p) ≡ true → allSet (m .dst) (rowsD p) ≡ true
+      → Same w byRow 8192 (m .dst) (multiplied p (d .srca) (d .srcb) (d .dst)) (multiplied p (e .srca) (e .srcb) (e .dst))
+  unfolding multiplied
+  multiply-same p q ha hb hd =
+      let g = subst (λ (v : Width). Same v byRow 8192 (m .dst) (d .dst) (e .dst)) (sym q) (s .dst) in
+      subst (λ (v : Width). Same v byRow 8192 (m .dst) (multiplied p (d .srca) (d .srcb) (d .dst)) (multiplied p (e .srca) (e .srcb) (e .dst))) q
+      (fewer (p .width) byRow 8192 _ _ _ (over-same (p .width) byRow 8192 (m .dst) (d .dst) (e .dst) g (inSpan (rowsD p)) _ _
+      (λ i r. multiplied-agrees p (d .srca) (e .srca) (d .srcb) (e .srcb)
+      (rows-same 2048 (m .srca) (d .srca) (e .srca) (s .srca) (rowsA p) ha)
+      (rows-same 2048 (m .srcb) (d .srcb) (e .srcb) (s .srcb) (rowsB p) hb)
+      (d .dst) (e .dst) i r
+      (g .same i (set-at (m .dst) (rowsD p) (i / 16) hd r))))
+      (m .dst) (over-true (inSpan (rowsD p)) (m .dst)))
 
   shift-a-same : (c : Control) (mode : ℕ) (t : ℕ) → Read m (fieldsRead c t (fields.ShiftA mode))
-      → Same byRow 2048 (overSpan (shiftedA c) true (m .srca)) (shiftA c mode (d .srca)) (shiftA c mode (e .srca))
+      → Same Bits32 byRow 2048 (overSpan (shiftedA c) true (m .srca)) (shiftA c mode (d .srca)) (shiftA c mode (e .srca))
   unfolding fieldsRead shiftA shiftedA
   shift-a-same c mode t h =
-      over-same byRow 2048 (m .srca) (d .srca) (e .srca) (s .srca) (inSpan (shiftedA c)) _ _
+      numbers-over byRow 2048 (m .srca) (d .srca) (e .srca) (s .srca) (inSpan (shiftedA c)) _ _
       (λ i q.
       let first = bankRow (c .a .matrix) (c .last) in
       let b = within-true (bankRow (c .a .matrix) 0) 16 (i / 16) q in
@@ -178,12 +158,12 @@ module _ (m : Marks) (d e : State) (s : Agree m d e) where
       (set-at (m .srca) (span first 16) (i / 16 + c .last) (h .a) (between-in first (first + 16) (i / 16 + c .last) (omega arith) (omega arith))))
 
   shift-b-same : (c : Control) (t : ℕ) (x : ShiftB) → Read m (fieldsRead c t (fields.ShiftB x))
-      → Same byRow 2048 (m .srcb) (shiftB c t x (d .srcb)) (shiftB c t x (e .srcb))
+      → Same Bits32 byRow 2048 (m .srcb) (shiftB c t x (d .srcb)) (shiftB c t x (e .srcb))
   unfolding fieldsRead shiftB
   shift-b-same c t x h =
       let r = shiftedB c t x in
       let rows = inSpan (span r 1) in
-      fewer byRow 2048 _ _ _ (over-same byRow 2048 (m .srcb) (d .srcb) (e .srcb) (s .srcb) rows _ _
+      fewer Bits32 byRow 2048 _ _ _ (numbers-over byRow 2048 (m .srcb) (d .srcb) (e .srcb) (s .srcb) rows _ _
       (λ i q.
       leftward-same 2048 (m .srcb) (d .srcb) (e .srcb) (s .srcb) _ _
       (end-same 2048 (m .srcb) (d .srcb) (e .srcb) (s .srcb) (x .zero) r (one-set (m .srcb) r (h .b)))
@@ -196,42 +176,43 @@ module _ (m : Marks) (d e : State) (s : Agree m d e) where
       go : (k : Bool) → allSet (m .registers) (cond k noSpan (span (register t (x .b)) 1)) ≡ true
           → cond k (x .b) (getD (d .registers) (register t (x .b)) 0) ≡ cond k (x .b) (getD (e .registers) (register t (x .b)) 0)
       go true h = refl
-      go false h = s .registers .same (register t (x .b)) (one-set (m .registers) (register t (x .b)) h)
+      go false h = number-same alone 192 (m .registers) (d .registers) (e .registers) (s .registers) (register t (x .b)) (one-set (m .registers) (register t (x .b)) h)
 
   scalar-same : (c : Control) (t : ℕ) (x : Scalar) → Read m (fieldsRead c t (fields.Scalar x))
-      → Same alone 192 (overSpan (span (register t (x .result)) 1) true (m .registers)) (scalar t x (d .registers)) (scalar t x (e .registers))
+      → Same Bits32 alone 192 (overSpan (span (register t (x .result)) 1) true (m .registers)) (scalar t x (d .registers)) (scalar t x (e .registers))
   unfolding fieldsRead scalar scalarResult
   scalar-same c t x h =
-      over-same alone 192 (m .registers) (d .registers) (e .registers) (s .registers) (inSpan (span (register t (x .result)) 1)) _ _
-      (λ i q. ap₂ (scalarOf (x .op) (x .mode)) (s .registers .same (register t (x .a)) (one-set (m .registers) (register t (x .a)) (h .left))) (operand-same t x (h .right)))
+      numbers-over alone 192 (m .registers) (d .registers) (e .registers) (s .registers) (inSpan (span (register t (x .result)) 1)) _ _
+      (λ i q. ap₂ (scalarOf (x .op) (x .mode)) (number-same alone 192 (m .registers) (d .registers) (e .registers) (s .registers) (register t (x .a)) (one-set (m .registers) (register t (x .a)) (h .left))) (operand-same t x (h .right)))
 
-  -- the fields of a word, all that they read being set
-  pub word-agrees : (c : Control) (t : ℕ) (f : Fields) → readsSet m (fieldsRead c t f) ≡ true
-      → Agree (instructionMarks m (fieldsSet c t f) (fieldsUnset c f)) (fieldsEffect c t f d) (fieldsEffect c t f e)
-  unfolding fieldsEffect fieldsSet fieldsUnset instructionMarks
-  word-agrees c t (fields.Multiply x) h =
+  -- the fields of a word, all that they read being set, under a record of this width
+  pub word-agrees : (c : Control) (t : ℕ) (f : Fields) → widthOf (c .settings) ≡ w → readsSet m (fieldsRead c t f) ≡ true
+      → Agree w (instructionMarks m (fieldsSet c t f) (fieldsUnset c f)) (fieldsEffect c t f d) (fieldsEffect c t f e)
+  unfolding fieldsEffect fieldsRead fieldsSet fieldsUnset instructionMarks productOf
+  word-agrees c t (fields.Multiply x) q h =
       let i = idle-agrees (fieldsUnset c (fields.Multiply x)) in
-      record { srca = i .srca; srcb = i .srcb; dst = multiply-same c t x (all-read m _ h); registers = i .registers }
-  word-agrees c t (fields.Legacy l) h = idle-agrees (fieldsUnset c (fields.Legacy l))
-  word-agrees c t (fields.SetCounters x) h = idle-agrees (fieldsUnset c (fields.SetCounters x))
-  word-agrees c t (fields.AddCounters x) h = idle-agrees noUnsets
-  word-agrees c t (fields.ZeroSrc z) h =
+      let r = all-read m _ h in
+      record { srca = i .srca; srcb = i .srcb; dst = multiply-same (productOf c t x) q (r .a) (r .b) (r .dst); registers = i .registers }
+  word-agrees c t (fields.Legacy l) q h = idle-agrees (fieldsUnset c (fields.Legacy l))
+  word-agrees c t (fields.SetCounters x) q h = idle-agrees (fieldsUnset c (fields.SetCounters x))
+  word-agrees c t (fields.AddCounters x) q h = idle-agrees noUnsets
+  word-agrees c t (fields.ZeroSrc z) q h =
       let i = idle-agrees noUnsets in
       record {
-        srca = drop-same byRow 2048 _ _ _ (written byRow 2048 (m .srca) (d .srca) (e .srca) (s .srca) (filledA c z) _) (inSpan noSpan);
-        srcb = drop-same byRow 2048 _ _ _ (written byRow 2048 (m .srcb) (d .srcb) (e .srcb) (s .srcb) (filledB c z) _) (inSpan noSpan);
+        srca = drop-same Bits32 byRow 2048 _ _ _ (numbers-over byRow 2048 (m .srca) (d .srca) (e .srca) (s .srca) (inSpan (filledA c z)) _ _ (λ i q. refl)) (inSpan noSpan);
+        srcb = drop-same Bits32 byRow 2048 _ _ _ (numbers-over byRow 2048 (m .srcb) (d .srcb) (e .srcb) (s .srcb) (inSpan (filledB c z)) _ _ (λ i q. refl)) (inSpan noSpan);
         dst = i .dst;
         registers = i .registers;
       }
-  word-agrees c t (fields.ShiftA mode) h =
+  word-agrees c t (fields.ShiftA mode) q h =
       let i = idle-agrees noUnsets in
       record {
-        srca = drop-same byRow 2048 _ _ _ (shift-a-same c mode t (all-read m _ h)) (inSpan noSpan);
+        srca = drop-same Bits32 byRow 2048 _ _ _ (shift-a-same c mode t (all-read m _ h)) (inSpan noSpan);
         srcb = i .srcb;
         dst = i .dst;
         registers = i .registers;
       }
-  word-agrees c t (fields.ShiftB x) h =
+  word-agrees c t (fields.ShiftB x) q h =
       let i = idle-agrees noUnsets in
       record {
         srca = i .srca;
@@ -239,7 +220,7 @@ module _ (m : Marks) (d e : State) (s : Agree m d e) where
         dst = i .dst;
         registers = i .registers;
       }
-  word-agrees c t fields.NoEffect h = idle-agrees noUnsets
-  word-agrees c t (fields.Scalar x) h =
+  word-agrees c t fields.NoEffect q h = idle-agrees noUnsets
+  word-agrees c t (fields.Scalar x) q h =
       let i = idle-agrees noUnsets in
       record { srca = i .srca; srcb = i .srcb; dst = i .dst; registers = scalar-same c t x (all-read m _ h) }

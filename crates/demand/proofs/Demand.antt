@@ -1,12 +1,17 @@
--- Demand 3 and demand 1, proved for every list of bytes. Assumes nothing.
+-- Demand 3 and demand 1, and no 7 in the BF16 mode, proved for every list of bytes. Assumes nothing.
 use mathlib.Core.Path.{_≡_, refl, sym, ap, _∙_}
 use mathlib.Core.Bool.{true, false, false≢true}
 use mathlib.Core.List.{List}
+use mathlib.Core.Logic.{_⊎_, inl, inr, _≢_, ⊎-elim}
 use Prim.Native.Nat.{ℕ, zero, suc, _≤_}
 use native.Mathlib.Nat.{zero-add}
 use native.Mathlib.Omega.{arith}
 use lib.ListN.{length, getD, replicate}
+use Rattle.cells.specs.declared.Width.{Width}
+use Rattle.cells.specs.declared.Width.the-variants.{Bits32, Bits16}
+use Rattle.cells.specs.Places.{rowCount}
 use Rattle.cells.proofs.Cells.{split}
+use Rattle.cells.proofs.Same.{Same}
 use Rattle.word.specs.Refusal.{numberOf}
 use Rattle.word.specs.declared.Refusal.{Refusal}
 use Rattle.word.specs.declared.Refusal.the-variants as refusal
@@ -14,13 +19,13 @@ use Rattle.control.specs.Record.{start}
 use Rattle.control.proofs.Kept.{start-kept}
 use Rattle.step.specs.State.{State, sized}
 use Rattle.step.proofs.Sizes.{sizes}
-use Rattle.job.specs.Fields.{fieldsFrom}
+use Rattle.job.specs.Fields.{jobWidth, fieldsFrom}
 use Rattle.job.specs.Shape.{shapeOf}
 use Rattle.job.specs.Values.{beforeWrong}
 use Rattle.job.specs.declared.Shape.{Shape}
 use Rattle.job.specs.declared.Shape.the-variants.{Right, WrongAt}
 use Rattle.job.proofs.Shaped.{sound}
-use Rattle.precheck.specs.Marks.{unset}
+use Rattle.precheck.specs.Marks.{unsetBut, unset}
 use Rattle.precheck.specs.Check.{precheckOf}
 use Rattle.precheck.specs.declared.Checked.{Checked}
 use Rattle.precheck.specs.declared.Checked.the-variants as checked
@@ -30,8 +35,10 @@ use Rattle.run.proofs.Turns.{run-passed, run-refused, run-unsized}
 use Rattle.run.specs.declared.Outcome.the-variants.{Finished, Refused}
 use Rattle.lines.specs.Lines.{linesOf}
 use Rattle.demand.specs.Breaks.{FirstBroken, issueFields}
-use Rattle.demand.specs.Demand.{Unbroken, Demand3, Demand1}
-use Rattle.demand.proofs.Agreement.{Same, Agree, byRow, alone}
+use Rattle.demand.specs.Demand.{Unbroken, Demand3, Demand1, JobModes}
+use Rattle.demand.proofs.Agreement.{Agree, byRow, alone}
+use Rattle.demand.proofs.Widths.{wide}
+use Rattle.demand.proofs.Modes.{none-breaks-seven}
 use Rattle.demand.proofs.Passed.{counted, Ended, ended}
 use Rattle.demand.proofs.Refused.{none-breaks, first-breaks}
 use Rattle.demand.proofs.Values.{values-same}
@@ -43,19 +50,19 @@ none-set zero i = refl
 none-set (suc n) zero = refl
 none-set (suc n) (suc i) = none-set n i
 
-unset-same : (row : ℕ → ℕ) (k n : ℕ) (d e : List ℕ) → length d ≡ n → length e ≡ n → Same row n (replicate k false) d e
-unset-same row k n d e p q = record { left = p; right = q; same = λ i t. absurd (false≢true (sym (none-set k (row i)) ∙ t)) }
+unset-same : (w : Width) (row : ℕ → ℕ) (k n : ℕ) (d e : List ℕ) → length d ≡ n → length e ≡ n → Same w row n (replicate k false) d e
+unset-same w row k n d e p q = record { left = p; right = q; same = λ i t. absurd (false≢true (sym (none-set k (row i)) ∙ t)) }
 
-start-agrees : (d e : State) → sized d ≡ true → sized e ≡ true → Agree unset d e
-unfolding unset
-start-agrees d e p q =
+start-agrees : (w : Width) (d e : State) → sized d ≡ true → sized e ≡ true → Agree w (unset w) d e
+unfolding unset unsetBut
+start-agrees w d e p q =
     let s = sizes d p in
     let r = sizes e q in
     record {
-      srca = unset-same byRow 128 2048 _ _ (s .srca) (r .srca);
-      srcb = unset-same byRow 128 2048 _ _ (s .srcb) (r .srcb);
-      dst = unset-same byRow 512 8192 _ _ (s .dst) (r .dst);
-      registers = unset-same alone 192 192 _ _ (s .registers) (r .registers);
+      srca = unset-same Bits32 byRow 128 2048 _ _ (s .srca) (r .srca);
+      srcb = unset-same Bits32 byRow 128 2048 _ _ (s .srcb) (r .srcb);
+      dst = unset-same w byRow (rowCount w) 8192 _ _ (s .dst) (r .dst);
+      registers = unset-same Bits32 alone 192 192 _ _ (s .registers) (r .registers);
     }
 
 -- ---- the answer of the pre-check, and that of the run by it
@@ -63,19 +70,20 @@ start-agrees d e p q =
 module _ (job : List ℕ) where
   -- a job that passes, over two states
   both-end : (n : ℕ) → precheckOf job ≡ checked.Passed n → (s t : State) → sized s ≡ true → sized t ≡ true
-      → Ended (fieldsFrom job 0) unset 0 (runOf job s) (runOf job t)
+      → Ended (jobWidth job) (fieldsFrom job 0) (unset (jobWidth job)) 0 (runOf job s) (runOf job t)
   both-end n e s t p q =
+      let x = precheck-passed job n e in
       rw (run-passed job s p n e, run-passed job t q n e)
-      (ended job (fieldsFrom job 0) start unset s t 0 n (sound job 0) start-kept (precheck-passed job n e .1) (start-agrees s t p q))
+      (ended job (fieldsFrom job 0) start (unset (jobWidth job)) s t 0 n (sound job 0) (wide job (x .0)) start-kept (x .1) (start-agrees (jobWidth job) s t p q))
 
-  found : shapeOf job ≡ Right → (r : Refusal) (p : ℕ) → precheckOf job ≡ checked.Refused r p → FirstBroken job start unset (fieldsFrom job 0) (numberOf r) p
-  found w r p e = first-breaks job (fieldsFrom job 0) start unset 0 r p (sym (precheck-right job w) ∙ e) .0
+  found : shapeOf job ≡ Right → (r : Refusal) (p : ℕ) → precheckOf job ≡ checked.Refused r p → FirstBroken job start (unset (jobWidth job)) (fieldsFrom job 0) (numberOf r) p
+  found w r p e = first-breaks job (fieldsFrom job 0) start (unset (jobWidth job)) 0 r p (sym (precheck-right job w) ∙ e) .0
 
   passes : shapeOf job ≡ Right → Unbroken job → precheckOf job ≡ checked.Passed (issueFields (fieldsFrom job 0))
   passes w h = go (precheckOf job) refl
     where
       go : (x : Checked) → precheckOf job ≡ x → x ≡ checked.Passed (issueFields (fieldsFrom job 0))
-      go (checked.Passed n) e = ap checked.Passed (counted job (fieldsFrom job 0) start unset 0 n (precheck-passed job n e .1) ∙ zero-add _)
+      go (checked.Passed n) e = ap checked.Passed (counted job (fieldsFrom job 0) start (unset (jobWidth job)) 0 n (precheck-passed job n e .1) ∙ zero-add _)
       go (checked.Refused r p) e = let b = found w r p e in absurd (false≢true (sym (h (b .index) (numberOf r)) ∙ b .breaking))
 
   finishes : (n : ℕ) → precheckOf job ≡ checked.Passed n → (s : State) → sized s ≡ true → runOf job s .outcome ≡ Finished (issueFields (fieldsFrom job 0))
@@ -90,7 +98,7 @@ module _ (job : List ℕ) where
   tabled r p e = go (shapeOf job) refl
     where
       go : (w : Shape) → shapeOf job ≡ w → numberOf r ≤ 8
-      go Right w = omega (arith, first-breaks job (fieldsFrom job 0) start unset 0 r p (sym (precheck-right job w) ∙ e) .1)
+      go Right w = omega (arith, first-breaks job (fieldsFrom job 0) start (unset (jobWidth job)) 0 r p (sym (precheck-right job w) ∙ e) .1)
       go (WrongAt q) w =
           let x = sym (precheck-wrong job q w) ∙ e in
           let y : refusal.Shape ≡ r = cc in
@@ -100,7 +108,7 @@ module _ (job : List ℕ) where
   demand3 =
       record {
         right = λ n e. precheck-passed job n e .0;
-        unbroken = λ n e. none-breaks job (fieldsFrom job 0) start unset 0 n (precheck-passed job n e .1);
+        unbroken = λ n e. none-breaks job (fieldsFrom job 0) start (unset (jobWidth job)) 0 n (precheck-passed job n e .1);
         passes = passes;
         finishes = finishes;
         prints = prints;
@@ -115,24 +123,56 @@ module _ (job : List ℕ) where
 
   module _ (s : State) where
     -- what a run answers and leaves, where both are known
-    told : (a : Refusal) (b : ℕ) → runOf job s ≡ ran (Refused a b) s → numberOf a ≤ 9 → (r : Refusal) (p : ℕ) → runOf job s .outcome ≡ Refused r p
-        → (runOf job s .state ≡ s) × (numberOf r ≤ 9)
-    told a b q l r p o =
-        let y : Refused a b ≡ Refused r p = sym (ap (λ (z : Ran). z .outcome) q) ∙ o in
-        let k : a ≡ r = cc in
-        (ap (λ (z : Ran). z .state) q, rw (← k) l)
+    told : (a : Refusal) (b : ℕ) → runOf job s ≡ ran (Refused a b) s → (r : Refusal) (p : ℕ) → runOf job s .outcome ≡ Refused r p
+        → (runOf job s .state ≡ s) × (Refused a b ≡ Refused r p)
+    told a b q r p o = (ap (λ (z : Ran). z .state) q, sym (ap (λ (z : Ran). z .outcome) q) ∙ o)
 
     -- a run refuses by the state's lengths, or as the pre-check does; else it finishes
-    refused : (r : Refusal) (p : ℕ) → runOf job s .outcome ≡ Refused r p → (runOf job s .state ≡ s) × (numberOf r ≤ 9)
+    refused : (r : Refusal) (p : ℕ) → runOf job s .outcome ≡ Refused r p → (runOf job s .state ≡ s) × ((numberOf r ≡ 9) ⊎ (precheckOf job ≡ checked.Refused r p))
     refused r p o =
         split (sized s) (λ size. go size (precheckOf job) refl)
-        (λ size. told refusal.StateLength 0 (run-unsized job s size) (omega arith) r p o)
+        (λ size.
+        let x = told refusal.StateLength 0 (run-unsized job s size) r p o in
+        let y = x .1 in
+        let k : refusal.StateLength ≡ r = cc in
+        (x .0, inl (sym (ap numberOf k))))
       where
-        go : sized s ≡ true → (v : Checked) → precheckOf job ≡ v → (runOf job s .state ≡ s) × (numberOf r ≤ 9)
+        go : sized s ≡ true → (v : Checked) → precheckOf job ≡ v → (runOf job s .state ≡ s) × ((numberOf r ≡ 9) ⊎ (precheckOf job ≡ checked.Refused r p))
         go size (checked.Passed n) w =
             let y : Finished (issueFields (fieldsFrom job 0)) ≡ Refused r p = sym (finishes n w s size) ∙ o in
             absurd (let z : _≡_ {A = ℕ} 0 1 = cc in omega arith)
-        go size (checked.Refused a b) w = told a b (run-refused job s size a b w) (omega (arith, tabled a b w)) r p o
+        go size (checked.Refused a b) w =
+            let x = told a b (run-refused job s size a b w) r p o in
+            let y = x .1 in
+            let k : a ≡ r = cc in
+            let l : b ≡ p = cc in
+            (x .0, inr (w ∙ (λ i. checked.Refused (k i) (l i))))
 
     pub demand1 : Demand1 job s
-    demand1 = record { unsized = run-unsized job s; kept = λ r p o. refused r p o .0; tabled = λ r p o. refused r p o .1 }
+    demand1 =
+        record {
+          unsized = run-unsized job s;
+          kept = λ r p o. refused r p o .0;
+          tabled = λ r p o. ⊎-elim (λ q. omega (arith, q)) (λ e. omega (arith, tabled r p e)) (refused r p o .1);
+        }
+
+  -- ---- the BF16 mode
+
+  check-modes : jobWidth job ≡ Bits16 → (r : Refusal) (p : ℕ) → precheckOf job ≡ checked.Refused r p → numberOf r ≢ 7
+  check-modes q r p e z = go (shapeOf job) refl
+    where
+      go : (w : Shape) → shapeOf job ≡ w → ⊥
+      go Right w =
+          let b = found w r p e in
+          false≢true (sym (none-breaks-seven job q (fieldsFrom job 0) start (unset (jobWidth job)) (wide job w) (b .index)) ∙ rw z at (b .breaking))
+      go (WrongAt y) w =
+          let x = sym (precheck-wrong job y w) ∙ e in
+          let k : refusal.Shape ≡ r = cc in
+          omega (arith, ap numberOf k, z)
+
+  pub job-modes : JobModes job
+  job-modes =
+      record {
+        check = check-modes;
+        run = λ q s r p o. ⊎-elim (λ n z. omega (arith, n, z)) (check-modes q r p) (refused s r p o .1);
+      }

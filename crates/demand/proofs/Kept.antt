@@ -34,11 +34,11 @@ unfolding fieldMarks setSrc setDst setRegister instructionMarks
 marks-stay c m kind.Settings = stays m
 marks-stay c m (kind.LoadSrc A rows) = record { dst = λ r t. t; registers = λ r t. t }
 marks-stay c m (kind.LoadSrc B rows) = record { dst = λ r t. t; registers = λ r t. t }
-marks-stay c m (kind.LoadDst rows) = record { dst = over-true (inSpan rows) (m .dst); registers = λ r t. t }
+marks-stay c m (kind.LoadDst w rows) = record { dst = over-true (inSpan rows) (m .dst); registers = λ r t. t }
 marks-stay c m (kind.LoadRegister t r) = record { dst = λ r t. t; registers = over-true _ (m .registers) }
 marks-stay c m (kind.HandOver file) = stays m
 marks-stay c m (kind.Issue t w) = record { dst = λ r t. t; registers = over-true (inSpan (wordSets c t w .registers)) (m .registers) }
-marks-stay c m (kind.OutputRows rows) = stays m
+marks-stay c m (kind.OutputRows w rows) = stays m
 marks-stay c m (kind.OutputRegister t r) = stays m
-marks-stay c m (kind.ZeroRows rows) = record { dst = over-true (inSpan rows) (m .dst); registers = λ r t. t }
+marks-stay c m (kind.ZeroRows w rows) = record { dst = over-true (inSpan rows) (m .dst); registers = λ r t. t }
 marks-stay c m kind.Wrong = stays m

@@ -1,11 +1,13 @@
--- The proofs of demand 3 and of demand 1.
+-- The proofs of demand 3, of demand 1 and of what the two Dst modes leave.
 mod Rules
 mod Kept
 mod Agreement
 mod Fields
 mod Lines
+mod Widths
 mod Passed
 mod Refused
 mod Values
-pub mod Demand
 pub mod Steps
+pub mod Modes
+pub mod Demand

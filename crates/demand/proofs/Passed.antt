@@ -4,13 +4,15 @@ use mathlib.Core.Bool.{true, cond}
 use mathlib.Core.List.{List, [], _∷_, _++_}
 use Prim.Native.Nat.{ℕ, suc, _+_}
 use native.Mathlib.Omega.{arith}
+use lib.ListN.{getD}
+use Rattle.cells.specs.declared.Width.{Width}
 use Rattle.control.specs.declared.Control.{Control}
 use Rattle.control.specs.Range.{inRange}
 use Rattle.rules.specs.Rules.{lowest}
 use Rattle.rules.specs.declared.Verdict.{Verdict}
 use Rattle.rules.specs.declared.Verdict.the-variants as verdict
 use Rattle.step.specs.State.{State}
-use Rattle.job.specs.Fields.{EachField}
+use Rattle.job.specs.Fields.{payloadAt, jobWidth, EachField}
 use Rattle.job.specs.declared.Kind.{Kind}
 use Rattle.job.specs.declared.Kind.the-variants as kind
 use Rattle.job.specs.declared.Field.{Field}
@@ -30,6 +32,7 @@ use Rattle.precheck.proofs.Kept.{control-kept}
 use Rattle.demand.proofs.Agreement.{Agree, swap}
 use Rattle.demand.proofs.Fields.{field-done, field-agrees}
 use Rattle.demand.proofs.Lines.{lines-same}
+use Rattle.demand.proofs.Widths.{Wide}
 
 -- ---- a turn of the walk
 
@@ -49,13 +52,13 @@ walk-on job f fs c m n q e = passed-on (lowest (fieldRules c m (f .kind))) (f .p
 count-one : (k : Kind) (n x : ℕ) → n + issueOf k + x ≡ n + cond (isIssue k) (suc x) x
 count-one kind.Settings n x = omega arith
 count-one (kind.LoadSrc file rows) n x = omega arith
-count-one (kind.LoadDst rows) n x = omega arith
+count-one (kind.LoadDst w rows) n x = omega arith
 count-one (kind.LoadRegister t r) n x = omega arith
 count-one (kind.HandOver file) n x = omega arith
 count-one (kind.Issue t w) n x = omega arith
-count-one (kind.OutputRows rows) n x = omega arith
+count-one (kind.OutputRows w rows) n x = omega arith
 count-one (kind.OutputRegister t r) n x = omega arith
-count-one (kind.ZeroRows rows) n x = omega arith
+count-one (kind.ZeroRows w rows) n x = omega arith
 count-one kind.Wrong n x = omega arith
 
 pub counted : (job : List ℕ) (fs : List Field) (c : Control) (m : Marks) (n q : ℕ) → checkFrom job fs c m n ≡ Passed q → q ≡ n + issueFields fs
@@ -68,12 +71,12 @@ counted job (f ∷ fs) c m n q e =
 -- ---- the run
 
 -- a run of fs over one state beside a run over another: it finishes with the count, and both print the same
-pub record Ended (fs : List Field) (m : Marks) (n : ℕ) (x y : Ran) : Type 0 where
+pub record Ended (w : Width) (fs : List Field) (m : Marks) (n : ℕ) (x y : Ran) : Type 0 where
   pub finished : x .outcome ≡ outcome.Finished (n + issueFields fs)
   pub lines : linesFrom fs (x .state) ≡ linesFrom fs (y .state)
   pub marks : Marks
   pub stay : Stays m marks
-  pub agree : Agree marks (x .state) (y .state)
+  pub agree : Agree w marks (x .state) (y .state)
 
 module _ (job : List ℕ) where
   -- what the run of the first field leaves
@@ -82,21 +85,24 @@ module _ (job : List ℕ) where
   unfolding execute
   run-on f fs c s n e = rw e
 
-  pub ended : (fs : List Field) (c : Control) (m : Marks) (d e : State) (n q : ℕ) → EachField (Sound job) fs → inRange c ≡ true
-      → checkFrom job fs c m n ≡ Passed q → Agree m d e → Ended fs m n (execute job fs c d n) (execute job fs c e n)
+  pub ended : (fs : List Field) (c : Control) (m : Marks) (d e : State) (n q : ℕ) → EachField (Sound job) fs → Wide job c fs → inRange c ≡ true
+      → checkFrom job fs c m n ≡ Passed q → Agree (jobWidth job) m d e → Ended (jobWidth job) fs m n (execute job fs c d n) (execute job fs c e n)
   unfolding execute issueFields linesFrom
-  ended [] c m d e n q w r h s = record { finished = ap outcome.Finished (omega arith); lines = refl; marks = m; stay = stays m; agree = s }
-  ended (f ∷ fs) c m d e n q w r h s =
+  ended [] c m d e n q w x r h s = record { finished = ap outcome.Finished (omega arith); lines = refl; marks = m; stay = stays m; agree = s }
+  ended (f ∷ fs) c m d e n q w x r h s =
       let k = f .kind in
-      let v = walk-on job f fs c m n q h in
+      let v = jobWidth job in
+      let tag = getD job (f .place) 0 in
+      let p = payloadAt job (f .place) in
+      let y = walk-on job f fs c m n q h in
       let i =
-      ended fs (fieldControl job c (f .place) k) (fieldMarks c m k) (performed job c (f .place) k d) (performed job c (f .place) k e) (n + issueOf k) q (w .1)
-      (control-kept job c f r (w .0)) (v .1) (field-agrees c m r d e s job (f .place) k (w .0 .range) (v .0)) in
+      ended fs (fieldControl job c (f .place) k) (fieldMarks c m k) (performed job c (f .place) k d) (performed job c (f .place) k e) (n + issueOf k) q (w .1) (x .1)
+      (control-kept job c f r (w .0)) (y .1) (field-agrees c m r v d e s tag p job (f .place) k (w .0 .says) (x .0) (y .0)) in
       let st = stays-on m (fieldMarks c m k) (i .marks) (marks-stay c m k) (i .stay) in
-      rw (run-on f fs c d n (field-done c m r d e s k (w .0 .range) (v .0)), run-on f fs c e n (field-done c m r e d (swap m d e s) k (w .0 .range) (v .0)))
+      rw (run-on f fs c d n (field-done c m r v d e s tag p k (w .0 .says) (y .0)), run-on f fs c e n (field-done c m r v e d (swap v m d e s) tag p k (w .0 .says) (y .0)))
       (record {
         finished = i .finished ∙ ap outcome.Finished (count-one k n (issueFields fs));
-        lines = ap₂ _++_ (lines-same c m (i .marks) k _ _ (v .0) st (i .agree)) (i .lines);
+        lines = ap₂ _++_ (lines-same v tag p c m (i .marks) k _ _ (w .0 .says) (y .0) st (i .agree)) (i .lines);
         marks = i .marks;
         stay = st;
         agree = i .agree;

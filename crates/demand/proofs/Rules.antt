@@ -104,11 +104,11 @@ pub rules-rise : (c : Control) (m : Marks) (k : Kind) → rising 0 (fieldRules c
 unfolding rising fieldRules rules wordRules
 rules-rise c m kind.Settings = refl
 rules-rise c m (kind.LoadSrc file rows) = refl
-rules-rise c m (kind.LoadDst rows) = refl
+rules-rise c m (kind.LoadDst w rows) = refl
 rules-rise c m (kind.LoadRegister t r) = refl
 rules-rise c m (kind.HandOver file) = refl
 rules-rise c m (kind.Issue t w) = refl
-rules-rise c m (kind.OutputRows rows) = refl
+rules-rise c m (kind.OutputRows w rows) = refl
 rules-rise c m (kind.OutputRegister t r) = refl
-rules-rise c m (kind.ZeroRows rows) = refl
+rules-rise c m (kind.ZeroRows w rows) = refl
 rules-rise c m kind.Wrong = refl

@@ -1,8 +1,8 @@
 -- Demand 1 of the single step. Assumes nothing.
-use mathlib.Core.Path.{_≡_, refl, sym, ap, _∙_, subst}
+use mathlib.Core.Path.{_≡_, refl, sym, ap}
 use mathlib.Core.Bool.{Bool, true, false, cond, _&&_}
 use mathlib.Core.List.{List, [], _∷_}
-use mathlib.Core.Logic.{_⊎_, inl, inr}
+use mathlib.Core.Logic.{_⊎_, inl, inr, ⊎-elim}
 use Prim.Native.Nat.{ℕ, _≤_}
 use native.Mathlib.Omega.{arith}
 use borrow.Author.Tests.{leb-true}
@@ -14,7 +14,6 @@ use Rattle.word.specs.declared.Refusal.the-variants.{StateLength, Shape}
 use Rattle.control.specs.declared.Control.{Control}
 use Rattle.control.specs.Range.{inRange}
 use Rattle.rules.specs.Rules.{Broken, rules, fieldRules, lowest, judgement}
-use Rattle.rules.specs.declared.Verdict.{Verdict}
 use Rattle.rules.specs.declared.Verdict.the-variants.{Done, Refused}
 use Rattle.step.specs.State.{State, sized}
 use Rattle.step.specs.Step.{verdictOf, steppedOf, stateOf}
@@ -44,17 +43,22 @@ unfolding judgement rules fieldRules
 judged-most c t w r e = lowest-most 7 (rules c t w) r refl e
 
 module _ (c : Control) (t w : ℕ) (s : State) where
-  tabled : (r : Refusal) → verdictOf c t w s ≡ Refused r → (numberOf r ≤ 7) ⊎ (numberOf r ≡ 9)
+  -- by a rule, or 1, or 9
+  pub refused-by : (r : Refusal) → verdictOf c t w s ≡ Refused r → (judgement c t w ≡ Refused r) ⊎ ((numberOf r ≡ 1) ⊎ (numberOf r ≡ 9))
   unfolding verdictOf
-  tabled r e = go (sized s) (inRange c && ltb t 3) e
+  refused-by r e = go (sized s) (inRange c && ltb t 3) e
     where
-      go : (size range : Bool) → cond size (cond range (judgement c t w) (Refused Shape)) (Refused StateLength) ≡ Refused r → (numberOf r ≤ 7) ⊎ (numberOf r ≡ 9)
-      go true true e = inl (judged-most c t w r e)
-      go true false e = let q : Shape ≡ r = cc in inl (omega (arith, ap numberOf q))
-      go false range e = let q : StateLength ≡ r = cc in inr (sym (ap numberOf q))
+      go : (size range : Bool) → cond size (cond range (judgement c t w) (Refused Shape)) (Refused StateLength) ≡ Refused r
+          → (judgement c t w ≡ Refused r) ⊎ ((numberOf r ≡ 1) ⊎ (numberOf r ≡ 9))
+      go true true e = inl e
+      go true false e = let q : Shape ≡ r = cc in inr (inl (sym (ap numberOf q)))
+      go false range e = let q : StateLength ≡ r = cc in inr (inr (sym (ap numberOf q)))
+
+  tabled : (r : Refusal) → verdictOf c t w s ≡ Refused r → (numberOf r ≤ 7) ⊎ (numberOf r ≡ 9)
+  tabled r e = ⊎-elim (λ j. inl (judged-most c t w r j)) (⊎-elim (λ q. inl (omega (arith, q))) inr) (refused-by r e)
 
   -- the rules stand in the order of their numbers
-  judged : (r : Refusal) → judgement c t w ≡ Refused r → Lowest (rules c t w) r
+  pub judged : (r : Refusal) → judgement c t w ≡ Refused r → Lowest (rules c t w) r
   unfolding judgement rules fieldRules rising
   judged r e = lowest-is 0 (rules c t w) r refl e
 

@@ -5,15 +5,14 @@ use mathlib.Core.List.{List, [], _∷_}
 use Prim.Native.Nat.{ℕ, _+_}
 use Rattle.control.specs.declared.Control.{Control}
 use Rattle.control.specs.Record.{start}
-use Rattle.job.specs.Fields.{payloadAt, fieldsFrom, EachField}
+use Rattle.job.specs.Fields.{payloadAt, jobWidth, fieldsFrom, EachField}
 use Rattle.job.specs.Settings.{settled}
 use Rattle.job.specs.Values.{OtherValues}
 use Rattle.job.specs.declared.Kind.{Kind}
 use Rattle.job.specs.declared.Kind.the-variants as kind
 use Rattle.job.specs.declared.Field.{Field}
-use Rattle.job.proofs.Loaded.{values-fields, values-shape, values-settings}
-use Rattle.precheck.specs.Marks.{Marks}
-use Rattle.precheck.specs.Marks.{unset}
+use Rattle.job.proofs.Loaded.{values-width, values-fields, values-shape, values-settings}
+use Rattle.precheck.specs.Marks.{Marks, unset}
 use Rattle.precheck.specs.Fields.{fieldControl, fieldMarks}
 use Rattle.precheck.specs.Check.{issueOf, checkFrom, precheckOf}
 
@@ -24,13 +23,13 @@ module _ (job other : List ℕ) where
   unfolding fieldControl
   control-same c place kind.Settings h = ap (settled c) (h refl)
   control-same c place (kind.LoadSrc file rows) h = refl
-  control-same c place (kind.LoadDst rows) h = refl
+  control-same c place (kind.LoadDst w rows) h = refl
   control-same c place (kind.LoadRegister t r) h = refl
   control-same c place (kind.HandOver file) h = refl
   control-same c place (kind.Issue t w) h = refl
-  control-same c place (kind.OutputRows rows) h = refl
+  control-same c place (kind.OutputRows w rows) h = refl
   control-same c place (kind.OutputRegister t r) h = refl
-  control-same c place (kind.ZeroRows rows) h = refl
+  control-same c place (kind.ZeroRows w rows) h = refl
   control-same c place kind.Wrong h = refl
 
   walk-same : (fs : List Field) (c : Control) (m : Marks) (n : ℕ)
@@ -43,4 +42,4 @@ module _ (job other : List ℕ) where
   pub values-same : (test : Field → Bool) → OtherValues test job other → precheckOf other ≡ precheckOf job
   unfolding precheckOf
   values-same test o =
-      rw (values-fields test job other o, values-shape test job other o, walk-same (fieldsFrom job 0) start unset 0 (values-settings test job other o))
+      rw (values-width test job other o, values-fields test job other o, values-shape test job other o, walk-same (fieldsFrom job 0) start (unset (jobWidth job)) 0 (values-settings test job other o))

@@ -36,13 +36,13 @@ pub record FirstBroken (job : List ℕ) (c : Control) (m : Marks) (fs : List Fie
 abbrev pub isIssue : Kind → Bool
 isIssue kind.Settings = false
 isIssue (kind.LoadSrc file rows) = false
-isIssue (kind.LoadDst rows) = false
+isIssue (kind.LoadDst w rows) = false
 isIssue (kind.LoadRegister t r) = false
 isIssue (kind.HandOver file) = false
 isIssue (kind.Issue t w) = true
-isIssue (kind.OutputRows rows) = false
+isIssue (kind.OutputRows w rows) = false
 isIssue (kind.OutputRegister t r) = false
-isIssue (kind.ZeroRows rows) = false
+isIssue (kind.ZeroRows w rows) = false
 isIssue kind.Wrong = false
 
 -- the number of issue fields

@@ -1,20 +1,25 @@
--- Demand 3 in one piece, for every list of bytes, with no hypothesis on the job; and demand 1 for the pre-check, the job run and the single step.
--- Definitions only.
+-- Demand 3 in one piece, for every list of bytes, with no hypothesis on the job; demand 1 for the pre-check, the job run and the single step; and
+-- which numbers the two Dst modes leave. Definitions only.
 use mathlib.Core.Path.{_≡_}
 use mathlib.Core.Bool.{true, false}
 use mathlib.Core.List.{List}
-use mathlib.Core.Logic.{_⊎_}
+use mathlib.Core.Logic.{_⊎_, _≢_}
 use Prim.Native.Nat.{ℕ, _≤_, _<_}
+use Rattle.cells.specs.declared.Width.the-variants.{Bits16}
 use Rattle.word.specs.Refusal.{numberOf}
+use Rattle.word.specs.Word.{wordFields}
+use Rattle.word.specs.declared.Multiply.{Multiply}
+use Rattle.word.specs.declared.Fields.the-variants as fields
 use Rattle.word.specs.declared.Refusal.{Refusal}
 use Rattle.word.specs.declared.Refusal.the-variants.{Shape, StateLength}
 use Rattle.control.specs.declared.Control.{Control}
-use Rattle.control.specs.Record.{start}
-use Rattle.rules.specs.Rules.{rules, judgement}
+use Rattle.control.specs.declared.Settings.{Settings}
+use Rattle.control.specs.Record.{start, bf16Mode, widthOf}
+use Rattle.rules.specs.Rules.{rules, judgement, fp32Mode}
 use Rattle.rules.specs.declared.Verdict.the-variants as verdict
 use Rattle.step.specs.State.{State, sized}
 use Rattle.step.specs.Step.{verdictOf, steppedOf, stateOf}
-use Rattle.job.specs.Fields.{fieldsFrom}
+use Rattle.job.specs.Fields.{jobWidth, fieldsFrom}
 use Rattle.job.specs.Shape.{shapeOf}
 use Rattle.job.specs.Values.{beforeWrong, OtherValues}
 use Rattle.job.specs.declared.Shape.the-variants.{Right, WrongAt}
@@ -26,9 +31,9 @@ use Rattle.lines.specs.Lines.{linesOf}
 use Rattle.run.specs.declared.Outcome.the-variants.{Finished, Refused}
 use Rattle.demand.specs.Breaks.{brokenNumber, breaks, FirstBroken, issueFields}
 
--- no field of the job breaks a rule
+-- no field of the job breaks a rule; at the start each row that its Dst has is unset
 abbrev pub Unbroken : List ℕ → Type 0
-Unbroken job = (k n : ℕ) → breaks job start unset (fieldsFrom job 0) k n ≡ false
+Unbroken job = (k n : ℕ) → breaks job start (unset (jobWidth job)) (fieldsFrom job 0) k n ≡ false
 
 pub record Demand3 (job : List ℕ) : Type 0 where
   -- a job passes exactly when its shape is right and no field breaks a rule
@@ -44,7 +49,7 @@ pub record Demand3 (job : List ℕ) : Type 0 where
   -- a job turned down is named by its first wrong place with number 1, or by its first field that breaks a rule with its lowest number
   pub misshapen : (p : ℕ) → shapeOf job ≡ WrongAt p → precheckOf job ≡ checked.Refused Shape p
   pub found : shapeOf job ≡ Right → (r : Refusal) (p : ℕ) → precheckOf job ≡ checked.Refused r p
-      → FirstBroken job start unset (fieldsFrom job 0) (numberOf r) p
+      → FirstBroken job start (unset (jobWidth job)) (fieldsFrom job 0) (numberOf r) p
   -- with one of the numbers 1 to 8
   pub named : (r : Refusal) (p : ℕ) → precheckOf job ≡ checked.Refused r p → numberOf r ≤ 8
   -- and a run over any state of the right sizes refuses it with the same number and place, and leaves the state
@@ -69,3 +74,26 @@ pub record StepDemand1 (c : Control) (t w : ℕ) (s : State) : Type 0 where
   pub broken : (r : Refusal) → judgement c t w ≡ verdict.Refused r → brokenNumber (numberOf r) (rules c t w) ≡ true
   pub lowest : (r : Refusal) → judgement c t w ≡ verdict.Refused r → (j : ℕ) → j < numberOf r → brokenNumber j (rules c t w) ≡ false
   pub unbroken : judgement c t w ≡ verdict.Done → (j : ℕ) → brokenNumber j (rules c t w) ≡ false
+
+-- ---- the two Dst modes: rows of 32-bit numbers, and in the BF16 mode of 16-bit numbers
+
+-- a multiply under settings that are modelled in neither mode
+pub record Unmodelled (s : Settings) (w : ℕ) : Type 0 where
+  pub multiply : Multiply
+  pub word : wordFields w ≡ fields.Multiply multiply
+  pub fp32 : fp32Mode s ≡ false
+  pub bf16 : bf16Mode (s .format) (s .fp32) (s .int8) (s .fp16a) ≡ false
+
+-- a word, under any record and thread
+pub record WordModes (c : Control) (t w : ℕ) : Type 0 where
+  -- it breaks 5 exactly when neither mode is modelled
+  pub unmodelled : brokenNumber 5 (rules c t w) ≡ true → Unmodelled (c .settings) w
+  pub five : Unmodelled (c .settings) w → brokenNumber 5 (rules c t w) ≡ true
+  -- 7 cannot occur in the BF16 mode: it is not broken, and no single step is refused with it
+  pub not-seven : widthOf (c .settings) ≡ Bits16 → brokenNumber 7 (rules c t w) ≡ false
+  pub step : widthOf (c .settings) ≡ Bits16 → (s : State) (r : Refusal) → verdictOf c t w s ≡ verdict.Refused r → numberOf r ≢ 7
+
+-- a job in the BF16 mode: neither the pre-check nor a run over any state refuses it with 7
+pub record JobModes (job : List ℕ) : Type 0 where
+  pub check : jobWidth job ≡ Bits16 → (r : Refusal) (p : ℕ) → precheckOf job ≡ checked.Refused r p → numberOf r ≢ 7
+  pub run : jobWidth job ≡ Bits16 → (s : State) (r : Refusal) (p : ℕ) → runOf job s .outcome ≡ Refused r p → numberOf r ≢ 7

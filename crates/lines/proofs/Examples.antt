@@ -1,12 +1,15 @@
--- Document 01, "Numbers to check against": the two lines of the job program's example, the refused one, and a row, as texts. Assumes nothing.
+-- Document 01, "Numbers to check against": the two lines of the job program's example, the refused one, and rows of
+-- both widths, as texts. Assumes nothing.
 use mathlib.Core.Path.{_≡_, refl}
-use mathlib.Core.List.{List, [], _∷_, _++_}
+use mathlib.Core.List.{List, [], _∷_, _++_, flatten}
 use Prim.Native.Nat.{ℕ, _+_}
-use lib.ListN.{replicate}
+use lib.ListN.{replicate, set}
+use Rattle.cells.specs.declared.Width.the-variants.{Bits32, Bits16}
+use Rattle.cells.specs.Places.{halfAt, getAt}
 use Rattle.step.specs.State.{state}
 use Rattle.lines.specs.Lines.{value, columns, fieldLines, linesFrom, linesOf}
 use Rattle.lines.specs.Text.{pushed, wrote, blank, made, decimalUpTo, decimal, hexDigit, hex, values, textOf, lineOf, finishedText, refusedText}
-use Rattle.job.specs.Fields.{fieldAt, fieldsUpTo, fieldsFrom}
+use Rattle.job.specs.Fields.{jobWidth, fieldAt, fieldsUpTo, fieldsFrom}
 use Rattle.job.specs.Kinds.{settings, loadRegister, issue, outputRows, outputRegister, kindOf}
 use Rattle.job.specs.Settings.{slotOf, threadRight, settingsRight}
 use Rattle.job.proofs.Examples.{worked}
@@ -31,16 +34,25 @@ refused-8 : refusedText 8 180 ≡ 114 ∷ 101 ∷ 102 ∷ 117 ∷ 115 ∷ 101 �
 unfolding refusedText decimal decimalUpTo
 refused-8 = refl
 
--- ` 00000000`
-abbrev zeros : List ℕ
-zeros = 32 ∷ 48 ∷ 48 ∷ 48 ∷ 48 ∷ 48 ∷ 48 ∷ 48 ∷ 48 ∷ []
-
 -- `D 1 deadbeef 00000000 ..`, sixteen values: row 1 begins at place 16
-row-1 : textOf (lineOf (Row 1) (replicate 16 7 ++ 0xDEADBEEF ∷ []) [])
+row-1 : textOf (lineOf (Row Bits32 1) (replicate 16 7 ++ 0xDEADBEEF ∷ []) [])
     ≡ 68 ∷ 32 ∷ 49 ∷ 32 ∷ 100 ∷ 101 ∷ 97 ∷ 100 ∷ 98 ∷ 101 ∷ 101 ∷ 102
-    ∷ zeros ++ zeros ++ zeros ++ zeros ++ zeros ++ zeros ++ zeros ++ zeros ++ zeros ++ zeros ++ zeros ++ zeros ++ zeros ++ zeros ++ zeros ++ 10 ∷ []
-unfolding textOf lineOf columns decimal decimalUpTo values hex hexDigit
+    ∷ flatten (replicate 15 (32 ∷ 48 ∷ 48 ∷ 48 ∷ 48 ∷ 48 ∷ 48 ∷ 48 ∷ 48 ∷ [])) ++ 10 ∷ []
+unfolding textOf lineOf columns getAt decimal decimalUpTo values hex hexDigit flatten
 row-1 = refl
+
+-- in the BF16 mode row 0 is the low halves of lent row 0, `D 0 0007 beef ..`, and row 512 its high halves, `D 512 3f80 dead ..`
+abbrev lent : List ℕ
+lent = 0x3F800007 ∷ replicate 8191 0xDEADBEEF
+
+row-0 : textOf (lineOf (Row Bits16 0) lent []) ≡ 68 ∷ 32 ∷ 48 ∷ 32 ∷ 48 ∷ 48 ∷ 48 ∷ 55 ∷ flatten (replicate 15 (32 ∷ 98 ∷ 101 ∷ 101 ∷ 102 ∷ [])) ++ 10 ∷ []
+unfolding textOf lineOf columns getAt halfAt decimal decimalUpTo values hex hexDigit flatten
+row-0 = refl
+
+row-512 : textOf (lineOf (Row Bits16 512) lent [])
+    ≡ 68 ∷ 32 ∷ 53 ∷ 49 ∷ 50 ∷ 32 ∷ 51 ∷ 102 ∷ 56 ∷ 48 ∷ flatten (replicate 15 (32 ∷ 100 ∷ 101 ∷ 97 ∷ 100 ∷ [])) ++ 10 ∷ []
+unfolding textOf lineOf columns getAt halfAt decimal decimalUpTo values hex hexDigit flatten
+row-512 = refl
 
 -- a text of bytes: the first ones are those that were written
 text-of-it : made (finishedText 1) .len ≡ 11
@@ -55,15 +67,20 @@ abbrev cursor : ℕ → ℕ → Cursor
 cursor at i = record { at = at; line = i }
 
 reads : (nextOf outputs startCursor ∷ nextOf outputs (cursor 0 1) ∷ nextOf outputs (cursor 0 2) ∷ nextOf outputs (cursor 6 1) ∷ [])
-    ≡ found.Line (Row 7) (cursor 0 1) ∷ found.Line (Row 8) (cursor 0 2) ∷ found.Line (Register 0 3) (cursor 6 1) ∷ found.End ∷ []
-unfolding nextOf nextFrom fieldsFrom fieldsUpTo fieldAt kindOf outputRows outputRegister
+    ≡ found.Line (Row Bits32 7) (cursor 0 1) ∷ found.Line (Row Bits32 8) (cursor 0 2) ∷ found.Line (Register 0 3) (cursor 6 1) ∷ found.End ∷ []
+unfolding nextOf nextFrom fieldsFrom fieldsUpTo fieldAt jobWidth kindOf outputRows outputRegister
 reads = refl
 
 -- the paper's job has one line, at 180
 worked-line : nextOf worked startCursor ≡ found.Line (Register 0 3) (cursor 180 1)
-unfolding worked nextOf nextFrom fieldsFrom fieldsUpTo fieldAt kindOf settings settingsRight threadRight slotOf loadRegister issue outputRegister
+unfolding worked nextOf nextFrom fieldsFrom fieldsUpTo fieldAt jobWidth kindOf settings settingsRight threadRight slotOf loadRegister issue outputRegister
 worked-line = refl
 
+-- with flags 0 instead of 1, and output rows 512 and 513 behind it, its next line is a row of the BF16 mode
+bf16-line : nextOf (set worked 4 0 ++ 6 ∷ 3 ∷ 0 ∷ 0 ∷ 2 ∷ 2 ∷ []) (cursor 180 1) ≡ found.Line (Row Bits16 512) (cursor 185 1)
+unfolding worked nextOf nextFrom fieldsFrom fieldsUpTo fieldAt jobWidth kindOf outputRows outputRegister
+bf16-line = refl
+
 worked-lines : linesOf worked (state [] [] [] (0 ∷ 12 ∷ 0 ∷ 9 ∷ [])) ≡ value 0 3 9 ∷ []
-unfolding worked linesOf linesFrom fieldLines fieldsFrom fieldsUpTo fieldAt kindOf settings settingsRight threadRight slotOf loadRegister issue outputRegister
+unfolding worked linesOf linesFrom fieldLines fieldsFrom fieldsUpTo fieldAt jobWidth kindOf settings settingsRight threadRight slotOf loadRegister issue outputRegister
 worked-lines = refl

@@ -8,6 +8,9 @@ use borrow.Author.Tests.{lt-ltb, le-ltb, ltb-true, ltb-false}
 use lib.Dec.{ltb}
 use lib.ListN.{length, getD, set, take, drop, length-append, length-set}
 use lib.Seq.{drop-cons, take-suc-set}
+use Rattle.cells.specs.declared.Width.{Width}
+use Rattle.cells.specs.declared.Width.the-variants.{Bits32, Bits16}
+use Rattle.cells.specs.Places.{digitsOf, getAt}
 use Rattle.cells.proofs.Cells.{split}
 use Rattle.lines.specs.Lines.{row, value, columns}
 use Rattle.lines.specs.Text.{blank, pushed, wrote, made, Holds, decimalUpTo, decimal, hexDigit, hex, values, wordRow, wordRegister, textOf}
@@ -68,28 +71,31 @@ hex-more (suc k) v h = let e : suc k - 1 ≡ k = omega arith in rw e
 
 -- ---- values
 
-pub value-one : (t : Text) (v : ℕ) → wrote (pushed t 32) (hex 8 v) ≡ wrote t (values (v ∷ []))
-unfolding values wrote
-value-one t v = ap (wrote (pushed t 32)) (sym (append-nil (hex 8 v)))
+module _ (digits : ℕ) where
+  pub value-one : (t : Text) (v : ℕ) → wrote (pushed t 32) (hex digits v) ≡ wrote t (values digits (v ∷ []))
+  unfolding values wrote
+  value-one t v = ap (wrote (pushed t 32)) (sym (append-nil (hex digits v)))
 
-values-cons : (v : ℕ) (vs : List ℕ) → values (v ∷ vs) ≡ values (v ∷ []) ++ values vs
-unfolding values
-values-cons v vs = ap (λ (l : List ℕ). 32 ∷ l ++ values vs) (sym (append-nil (hex 8 v)))
+  values-cons : (v : ℕ) (vs : List ℕ) → values digits (v ∷ vs) ≡ values digits (v ∷ []) ++ values digits vs
+  unfolding values
+  values-cons v vs = ap (λ (l : List ℕ). 32 ∷ l ++ values digits vs) (sym (append-nil (hex digits v)))
 
-columns-cons : (l : List ℕ) (r k n : ℕ) → columns l r k (suc n) ≡ getD l (r * 16 + k) 0 ∷ columns l r (k + 1) n
-unfolding columns
-columns-cons l r k n = rw add-one
+module _ (w : Width) (l : List ℕ) where
+  columns-cons : (r k n : ℕ) → columns w l r k (suc n) ≡ getAt w l (r * 16 + k) ∷ columns w l r (k + 1) n
+  unfolding columns
+  columns-cons r k n = rw add-one
 
--- a turn of the loop over a row's columns
-pub columns-on : (t : Text) (l : List ℕ) (r k : ℕ) → k < 16
-    → wrote t (values (columns l r k (16 - k))) ≡ wrote (wrote t (values (getD l (r * 16 + k) 0 ∷ []))) (values (columns l r (k + 1) (16 - (k + 1))))
-columns-on t l r k h =
-    let e : 16 - k ≡ suc (16 - (k + 1)) = omega arith in
-    rw (e, columns-cons, values-cons) (sym (wrote-append t _ _))
+  -- a turn of the loop over a row's columns
+  pub columns-on : (digits : ℕ) (t : Text) (r k : ℕ) → k < 16
+      → wrote t (values digits (columns w l r k (16 - k)))
+      ≡ wrote (wrote t (values digits (getAt w l (r * 16 + k) ∷ []))) (values digits (columns w l r (k + 1) (16 - (k + 1))))
+  columns-on digits t r k h =
+      let e : 16 - k ≡ suc (16 - (k + 1)) = omega arith in
+      rw (e, columns-cons, values-cons) (sym (wrote-append t _ _))
 
-pub columns-done : (t : Text) (l : List ℕ) (r k : ℕ) → 16 ≤ k → wrote t (values (columns l r k (16 - k))) ≡ t
-unfolding wrote values columns
-columns-done t l r k h = let e : 16 - k ≡ 0 = omega arith in rw e
+  pub columns-done : (digits : ℕ) (t : Text) (r k : ℕ) → 16 ≤ k → wrote t (values digits (columns w l r k (16 - k))) ≡ t
+  unfolding wrote values columns
+  columns-done digits t r k h = let e : 16 - k ≡ 0 = omega arith in rw e
 
 -- ---- what a text holds in the end
 
@@ -143,15 +149,19 @@ unfolding hex
 length-hex zero v = refl
 length-hex (suc k) v = rw (length-append, length-hex k (v / 16)) (omega arith)
 
-length-values : (vs : List ℕ) → length (values vs) ≡ 9 * length vs
-unfolding values
-length-values [] = refl
-length-values (v ∷ vs) = rw (length-append, length-hex 8 v, length-values vs) (omega arith)
+digits-short : (w : Width) → digitsOf w ≤ 8
+digits-short Bits32 = omega arith
+digits-short Bits16 = omega arith
 
-length-columns : (l : List ℕ) (r k n : ℕ) → length (columns l r k n) ≡ n
+values-short : (digits : ℕ) (vs : List ℕ) → digits ≤ 8 → length (values digits vs) ≤ 9 * length vs
+unfolding values
+values-short digits [] h = omega arith
+values-short digits (v ∷ vs) h = rw (length-append, length-hex digits v) (omega (arith, values-short digits vs h))
+
+length-columns : (w : Width) (l : List ℕ) (r k n : ℕ) → length (columns w l r k n) ≡ n
 unfolding columns
-length-columns l r k zero = refl
-length-columns l r k (suc n) = ap suc (length-columns l r (suc k) n)
+length-columns w l r k zero = refl
+length-columns w l r k (suc n) = ap suc (length-columns w l r (suc k) n)
 
 -- ---- the texts: a word and a number; two of each; a word, a number and values
 
@@ -173,18 +183,20 @@ module _ (r : Text) (w : List ℕ) (n : ℕ) (fits : n < 2 ^ 64) where
       whole r _ (simp length-append (omega (arith, fits-20 n fits, fits-20 p f)))
       (e ∙ simp (wrote-one, wrote-append, append-assoc))
 
-pub row-text : (r : Text) (l : List ℕ) (i : ℕ) → i < 2 ^ 32
-    → r ≡ pushed (wrote (wrote (wrote blank wordRow) (decimal i)) (values (columns l i 0 16))) 10
-    → (r ≡ made (textOf (row i (columns l i 0 16)))) × Holds r (textOf (row i (columns l i 0 16)))
+pub row-text : (r : Text) (w : Width) (l : List ℕ) (i : ℕ) → i < 2 ^ 32
+    → r ≡ pushed (wrote (wrote (wrote blank wordRow) (decimal i)) (values (digitsOf w) (columns w l i 0 16))) 10
+    → (r ≡ made (textOf (row w i (columns w l i 0 16)))) × Holds r (textOf (row w i (columns w l i 0 16)))
 unfolding textOf
-row-text r l i f e =
-    whole r _ (simp (length-append, length-values, length-columns) (omega (arith, decimal-short 9 i (omega arith))))
+row-text r w l i f e =
+    whole r _
+    (simp length-append
+    (omega (arith, decimal-short 9 i (omega arith), values-short (digitsOf w) (columns w l i 0 16) (digits-short w), length-columns w l i 0 16)))
     (e ∙ simp (wrote-one, wrote-append, append-assoc))
 
 pub value-text : (r : Text) (t i v : ℕ) → t < 2 ^ 64 → i < 2 ^ 64
-    → r ≡ pushed (wrote (wrote (pushed (wrote (wrote blank wordRegister) (decimal t)) 32) (decimal i)) (values (v ∷ []))) 10
+    → r ≡ pushed (wrote (wrote (pushed (wrote (wrote blank wordRegister) (decimal t)) 32) (decimal i)) (values 8 (v ∷ []))) 10
     → (r ≡ made (textOf (value t i v))) × Holds r (textOf (value t i v))
 unfolding textOf
 value-text r t i v f g e =
-    whole r _ (simp (length-append, length-values) (omega (arith, fits-20 t f, fits-20 i g)))
+    whole r _ (simp length-append (omega (arith, fits-20 t f, fits-20 i g, values-short 8 (v ∷ []) (omega arith))))
     (e ∙ simp (wrote-one, wrote-append, append-assoc))

@@ -8,6 +8,9 @@ use borrow.Author.Tests.{lt-ltb, le-ltb, ltb-true, ltb-false}
 use lib.Dec.{ltb}
 use lib.ListN.{length, drop}
 use lib.Seq.{drop-append-le, drop-append-add, drop-nil}
+use Rattle.cells.specs.declared.Width.{Width}
+use Rattle.cells.specs.declared.Width.the-variants.{Bits32, Bits16}
+use Rattle.cells.specs.Places.{rowCount}
 use Rattle.cells.proofs.Cells.{split}
 use Rattle.job.specs.Fields.{fieldAt, fieldsFrom}
 use Rattle.job.specs.declared.Kind.{Kind}
@@ -40,30 +43,34 @@ next-end job at i h = rw (fields-end job at h)
 
 -- ---- the lines of a field
 
-length-rows : (l : List ℕ) (first n : ℕ) → length (rowLines l first n) ≡ n
+pub rows-few : (w : Width) → rowCount w ≤ 1024
+rows-few Bits32 = omega arith
+rows-few Bits16 = omega arith
+
+length-rows : (w : Width) (l : List ℕ) (first n : ℕ) → length (rowLines w l first n) ≡ n
 unfolding rowLines
-length-rows l first zero = refl
-length-rows l first (suc n) = ap suc (length-rows l (suc first) n)
+length-rows w l first zero = refl
+length-rows w l first (suc n) = ap suc (length-rows w l (suc first) n)
 
 length-field : (k : Kind) (s : State) → length (fieldLines k s) ≡ lineCount k
 unfolding fieldLines
 length-field Settings s = refl
 length-field (LoadSrc file rows) s = refl
-length-field (LoadDst rows) s = refl
+length-field (LoadDst w rows) s = refl
 length-field (LoadRegister t r) s = refl
 length-field (HandOver file) s = refl
 length-field (Issue t w) s = refl
-length-field (OutputRows rows) s = length-rows (s .dst) (rows .first) (rows .count)
+length-field (OutputRows w rows) s = length-rows w (s .dst) (rows .first) (rows .count)
 length-field (OutputRegister t r) s = refl
-length-field (ZeroRows rows) s = refl
+length-field (ZeroRows w rows) s = refl
 length-field Wrong s = refl
 
-drop-rows : (l : List ℕ) (first n i : ℕ) → i < n
-    → drop i (rowLines l first n) ≡ row (first + i) (columns l (first + i) 0 16) ∷ drop (suc i) (rowLines l first n)
+drop-rows : (w : Width) (l : List ℕ) (first n i : ℕ) → i < n
+    → drop i (rowLines w l first n) ≡ row w (first + i) (columns w l (first + i) 0 16) ∷ drop (suc i) (rowLines w l first n)
 unfolding rowLines
-drop-rows l first zero i h = absurd (omega arith)
-drop-rows l first (suc n) zero h = let e : first + 0 ≡ first = omega arith in rw e
-drop-rows l first (suc n) (suc i) h = let e : first + suc i ≡ suc first + i = omega arith in rw e (drop-rows l (suc first) n i (omega arith))
+drop-rows w l first zero i h = absurd (omega arith)
+drop-rows w l first (suc n) zero h = let e : first + 0 ≡ first = omega arith in rw e
+drop-rows w l first (suc n) (suc i) h = let e : first + suc i ≡ suc first + i = omega arith in rw e (drop-rows w l (suc first) n i (omega arith))
 
 -- its i-th line is what `whatAt` says
 drop-field : (k : Kind) (s : State) (i : ℕ) → i < lineCount k
@@ -71,14 +78,14 @@ drop-field : (k : Kind) (s : State) (i : ℕ) → i < lineCount k
 unfolding fieldLines lineOf
 drop-field Settings s i h = absurd (omega arith)
 drop-field (LoadSrc file rows) s i h = absurd (omega arith)
-drop-field (LoadDst rows) s i h = absurd (omega arith)
+drop-field (LoadDst w rows) s i h = absurd (omega arith)
 drop-field (LoadRegister t r) s i h = absurd (omega arith)
 drop-field (HandOver file) s i h = absurd (omega arith)
 drop-field (Issue t w) s i h = absurd (omega arith)
-drop-field (OutputRows rows) s i h = drop-rows (s .dst) (rows .first) (rows .count) i h
+drop-field (OutputRows w rows) s i h = drop-rows w (s .dst) (rows .first) (rows .count) i h
 drop-field (OutputRegister t r) s zero h = refl
 drop-field (OutputRegister t r) s (suc i) h = absurd (omega arith)
-drop-field (ZeroRows rows) s i h = absurd (omega arith)
+drop-field (ZeroRows w rows) s i h = absurd (omega arith)
 drop-field Wrong s i h = absurd (omega arith)
 
 -- ---- reading on

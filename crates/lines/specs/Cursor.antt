@@ -29,27 +29,27 @@ linesAt job c s = drop (c .line) (linesFrom (fieldsFrom job (c .at)) s)
 abbrev pub lineCount : Kind → ℕ
 lineCount kind.Settings = 0
 lineCount (kind.LoadSrc file rows) = 0
-lineCount (kind.LoadDst rows) = 0
+lineCount (kind.LoadDst w rows) = 0
 lineCount (kind.LoadRegister t r) = 0
 lineCount (kind.HandOver file) = 0
 lineCount (kind.Issue t w) = 0
-lineCount (kind.OutputRows rows) = rows .count
+lineCount (kind.OutputRows w rows) = rows .count
 lineCount (kind.OutputRegister t r) = 1
-lineCount (kind.ZeroRows rows) = 0
+lineCount (kind.ZeroRows w rows) = 0
 lineCount kind.Wrong = 0
 
 -- what its i-th line shows; a field that prints none is never asked
 abbrev pub whatAt : Kind → ℕ → What
-whatAt kind.Settings i = what.Row 0
-whatAt (kind.LoadSrc file rows) i = what.Row 0
-whatAt (kind.LoadDst rows) i = what.Row 0
-whatAt (kind.LoadRegister t r) i = what.Row 0
-whatAt (kind.HandOver file) i = what.Row 0
-whatAt (kind.Issue t w) i = what.Row 0
-whatAt (kind.OutputRows rows) i = what.Row (rows .first + i)
+whatAt kind.Settings i = what.Register 0 0
+whatAt (kind.LoadSrc file rows) i = what.Register 0 0
+whatAt (kind.LoadDst w rows) i = what.Register 0 0
+whatAt (kind.LoadRegister t r) i = what.Register 0 0
+whatAt (kind.HandOver file) i = what.Register 0 0
+whatAt (kind.Issue t w) i = what.Register 0 0
+whatAt (kind.OutputRows w rows) i = what.Row w (rows .first + i)
 whatAt (kind.OutputRegister t r) i = what.Register t r
-whatAt (kind.ZeroRows rows) i = what.Row 0
-whatAt kind.Wrong i = what.Row 0
+whatAt (kind.ZeroRows w rows) i = what.Register 0 0
+whatAt kind.Wrong i = what.Register 0 0
 
 -- the next line of a list of fields of which i lines were read, and the cursor after it
 unfoldable pub nextFrom : List Field → ℕ → Found

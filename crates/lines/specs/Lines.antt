@@ -3,7 +3,9 @@
 use mathlib.Core.List.{List, [], _∷_, _++_}
 use Prim.Native.Nat.{ℕ, zero, suc, _+_}
 use lib.ListN.{getD}
+use Rattle.cells.specs.declared.Width.{Width}
 use Rattle.cells.specs.Cells.{cell}
+use Rattle.cells.specs.Places.{getAt}
 use Rattle.rules.specs.Rows.{register}
 use Rattle.step.specs.State.{State}
 use Rattle.job.specs.Fields.{fieldsFrom}
@@ -11,31 +13,35 @@ use Rattle.job.specs.declared.Kind.{Kind}
 use Rattle.job.specs.declared.Kind.the-variants as kind
 use Rattle.job.specs.declared.Field.{Field}
 
+-- a row of a width: its number and its values; a register: thread, register and value
 pub data Line : Type 0 where
-  row : ℕ → List ℕ → Line
+  row : Width → ℕ → List ℕ → Line
   value : ℕ → ℕ → ℕ → Line
 
 -- the sixteen numbers of a row, from column k on
-unfoldable pub columns : List ℕ → ℕ → ℕ → ℕ → List ℕ
-columns l r k zero = []
-columns l r k (suc n) = getD l (cell r k) 0 ∷ columns l r (suc k) n
+unfoldable pub columns : Width → List ℕ → ℕ → ℕ → ℕ → List ℕ
+columns w l r k zero = []
+columns w l r k (suc n) = getAt w l (cell r k) ∷ columns w l r (suc k) n
 
-unfoldable pub rowLines : List ℕ → ℕ → ℕ → List Line
-rowLines l first zero = []
-rowLines l first (suc n) = row first (columns l first 0 16) ∷ rowLines l (suc first) n
+-- n rows from `first` on, a line each
+unfoldable pub rowLines : Width → List ℕ → ℕ → ℕ → List Line
+rowLines w l first zero = []
+rowLines w l first (suc n) = row w first (columns w l first 0 16) ∷ rowLines w l (suc first) n
 
+-- the lines of a field: outputs alone have some
 unfoldable pub fieldLines : Kind → State → List Line
 fieldLines kind.Settings s = []
 fieldLines (kind.LoadSrc file rows) s = []
-fieldLines (kind.LoadDst rows) s = []
+fieldLines (kind.LoadDst w rows) s = []
 fieldLines (kind.LoadRegister t r) s = []
 fieldLines (kind.HandOver file) s = []
 fieldLines (kind.Issue t w) s = []
-fieldLines (kind.OutputRows rows) s = rowLines (s .dst) (rows .first) (rows .count)
+fieldLines (kind.OutputRows w rows) s = rowLines w (s .dst) (rows .first) (rows .count)
 fieldLines (kind.OutputRegister t r) s = value t r (getD (s .registers) (register t r) 0) ∷ []
-fieldLines (kind.ZeroRows rows) s = []
+fieldLines (kind.ZeroRows w rows) s = []
 fieldLines kind.Wrong s = []
 
+-- field by field, in file order
 unfoldable pub linesFrom : List Field → State → List Line
 linesFrom [] s = []
 linesFrom (f ∷ fs) s = fieldLines (f .kind) s ++ linesFrom fs s

@@ -1,11 +1,13 @@
 -- Document 01, "Numbers to check against": a line and an answer as bytes: thread, register and row in decimal, values as eight lowercase
--- hexadecimal digits, single spaces, a newline at the end. A text is a hundred and sixty bytes, of which the first `len` count. Definitions only.
+-- hexadecimal digits, those of a row in the BF16 mode as four, single spaces, a newline at the end. A text is a hundred and sixty bytes, of
+-- which the first `len` count. Definitions only.
 use mathlib.Core.Bool.{cond}
 use mathlib.Core.Path.{_≡_}
 use mathlib.Core.List.{List, [], _∷_, _++_}
 use Prim.Native.Nat.{ℕ, zero, suc, _+_, _/_, _%_, _≤_}
 use lib.Dec.{ltb}
 use lib.ListN.{length, getD, set, take, replicate}
+use Rattle.cells.specs.Places.{digitsOf}
 use Rattle.rules.specs.Rows.{register}
 use Rattle.lines.specs.Lines.{Line, row, value, columns}
 use Rattle.lines.specs.declared.Text.{Text}
@@ -79,19 +81,19 @@ wordAt = 32 ∷ 97 ∷ 116 ∷ 32 ∷ []
 
 -- ---- lines
 
--- a space and eight digits for each value
-unfoldable pub values : List ℕ → List ℕ
-values [] = []
-values (v ∷ vs) = 32 ∷ hex 8 v ++ values vs
+-- a space and k digits for each value
+unfoldable pub values : ℕ → List ℕ → List ℕ
+values k [] = []
+values k (v ∷ vs) = 32 ∷ hex k v ++ values k vs
 
--- `D 7 00000000 ..` and `G 0 3 00000009`
+-- `D 7 00000000 ..`, in the BF16 mode `D 7 0000 ..`, and `G 0 3 00000009`
 unfoldable pub textOf : Line → List ℕ
-textOf (row r vs) = wordRow ++ decimal r ++ values vs ++ 10 ∷ []
-textOf (value t r v) = wordRegister ++ decimal t ++ 32 ∷ decimal r ++ values (v ∷ []) ++ 10 ∷ []
+textOf (row w r vs) = wordRow ++ decimal r ++ values (digitsOf w) vs ++ 10 ∷ []
+textOf (value t r v) = wordRegister ++ decimal t ++ 32 ∷ decimal r ++ values 8 (v ∷ []) ++ 10 ∷ []
 
 -- the line that stands at a place, over Dst and the registers
 unfoldable pub lineOf : What → List ℕ → List ℕ → Line
-lineOf (what.Row r) dst registers = row r (columns dst r 0 16)
+lineOf (what.Row w r) dst registers = row w r (columns w dst r 0 16)
 lineOf (what.Register t r) dst registers = value t r (getD registers (register t r) 0)
 
 -- ---- answers

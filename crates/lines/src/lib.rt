@@ -1,8 +1,8 @@
 // The printed lines of a finished job: which they are, one at a time, and each as text. A program only loops and writes.
 mod write;
 
+use cells::Width;
 use job::Kind;
-use write::number_at;
 use write::push;
 use write::push_decimal;
 use write::push_row;
@@ -26,9 +26,9 @@ pub struct Cursor {
     pub line: u32,
 }
 
-// What a line shows: a row of Dst, or a register.
+// What a line shows: a row of Dst with its width, or a register.
 pub enum What {
-    Row { row: u32 },
+    Row { width: Width, row: u32 },
     Register { thread: u8, register: u8 },
 }
 
@@ -51,19 +51,19 @@ fn line_count(kind: Kind) -> u32
     match kind {
         Kind::Settings => 0,
         Kind::LoadSrc { file: _, rows: _ } => 0,
-        Kind::LoadDst { rows: _ } => 0,
+        Kind::LoadDst { width: _, rows: _ } => 0,
         Kind::LoadRegister {
             thread: _,
             register: _,
         } => 0,
         Kind::HandOver { file: _ } => 0,
         Kind::Issue { thread: _, word: _ } => 0,
-        Kind::OutputRows { rows } => rows.count,
+        Kind::OutputRows { width: _, rows } => rows.count,
         Kind::OutputRegister {
             thread: _,
             register: _,
         } => 1,
-        Kind::ZeroRows { rows: _ } => 0,
+        Kind::ZeroRows { width: _, rows: _ } => 0,
         Kind::Wrong => 0,
     }
 }
@@ -73,22 +73,27 @@ fn what_at(kind: Kind, line: u32) -> What
     requires { ⌜ InRange kind × (line < lineCount kind) ⌝ }
     ensures { λ r. ⌜ r ≡ whatAt kind line ⌝ }
 {
+    let none = What::Register {
+        thread: 0,
+        register: 0,
+    };
     match kind {
-        Kind::Settings => What::Row { row: 0 },
-        Kind::LoadSrc { file: _, rows: _ } => What::Row { row: 0 },
-        Kind::LoadDst { rows: _ } => What::Row { row: 0 },
+        Kind::Settings => none,
+        Kind::LoadSrc { file: _, rows: _ } => none,
+        Kind::LoadDst { width: _, rows: _ } => none,
         Kind::LoadRegister {
             thread: _,
             register: _,
-        } => What::Row { row: 0 },
-        Kind::HandOver { file: _ } => What::Row { row: 0 },
-        Kind::Issue { thread: _, word: _ } => What::Row { row: 0 },
-        Kind::OutputRows { rows } => What::Row {
+        } => none,
+        Kind::HandOver { file: _ } => none,
+        Kind::Issue { thread: _, word: _ } => none,
+        Kind::OutputRows { width, rows } => What::Row {
+            width,
             row: rows.first + line,
         },
         Kind::OutputRegister { thread, register } => What::Register { thread, register },
-        Kind::ZeroRows { rows: _ } => What::Row { row: 0 },
-        Kind::Wrong => What::Row { row: 0 },
+        Kind::ZeroRows { width: _, rows: _ } => none,
+        Kind::Wrong => none,
     }
 }
 
@@ -128,21 +133,22 @@ fn empty() -> Text
     }
 }
 
-// `D 7 00000000 ..` or `G 0 3 00000009`, from the final state.
+// `D 7 00000000 ..`, in the BF16 mode `D 7 0000 ..`, or `G 0 3 00000009`, from the final state.
 pub fn line_text(what: What, dst: &[u32], registers: &[u32]) -> Text
     ensures whole { λ r. ⌜ r ≡ made (textOf (lineOf what (now (dst .entry)) (now (registers .entry)))) ⌝ }
     ensures first { λ r. ⌜ Holds r (textOf (lineOf what (now (dst .entry)) (now (registers .entry)))) ⌝ }
 {
     match what {
-        What::Row { row } => {
+        What::Row { width, row } => {
             let t = push_decimal(push_word(empty(), b"D "), row as usize);
-            push(push_row(t, dst, row), 10)
+            push(push_row(t, width, dst, row), 10)
         }
         What::Register { thread, register } => {
             let t = push_decimal(push_word(empty(), b"G "), thread as usize);
             let u = push_decimal(push(t, 32), register as usize);
-            let v = number_at(registers, thread as usize * 64 + register as usize);
-            push(push_value(u, v), 10)
+            let at = thread as usize * 64 + register as usize;
+            let v = cells::read(Width::Bits32, registers, at);
+            push(push_value(u, 8, v), 10)
         }
     }
 }

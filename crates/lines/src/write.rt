@@ -1,9 +1,10 @@
 // Bytes, words and numbers put at a text's end. Nothing is put where the text is full.
 use crate::Text;
+use cells::Width;
 ghost use mathlib.Core.Path.{_≡_};
 ghost use mathlib.Core.List.{_∷_, []};
 ghost use Prim.Native.Nat.{ℕ, _+_, _%_};
-ghost use lib.ListN.{getD};
+ghost use Rattle.cells.specs.Places.{digitsOf};
 ghost use Rattle.lines.specs.Lines.{columns};
 ghost use Rattle.lines.specs.Text.{pushed, wrote, decimal, hexDigit, hex, values};
 
@@ -62,32 +63,23 @@ fn push_hex(t: Text, digits: u32, v: u32) -> Text
     push(push_hex(t, digits - 1, v / 16), hex_digit(v))
 }
 
-// A space and eight digits.
-pub(crate) fn push_value(t: Text, v: u32) -> Text
-    ensures { λ r. ⌜ r ≡ wrote t (values (v ∷ [])) ⌝ }
+// A space and the digits.
+pub(crate) fn push_value(t: Text, digits: u32, v: u32) -> Text
+    ensures { λ r. ⌜ r ≡ wrote t (values digits (v ∷ [])) ⌝ }
 {
-    push_hex(push(t, 32), 8, v)
+    push_hex(push(t, 32), digits, v)
 }
 
-// The number at a place, 0 past the end.
-pub(crate) fn number_at(file: &[u32], i: usize) -> u32
-    ensures { λ r. ⌜ r ≡ getD (now (file .entry)) i 0 ⌝ }
+// The sixteen values of a row: eight digits each, four in the BF16 mode.
+pub(crate) fn push_row(t: Text, width: Width, dst: &[u32], row: u32) -> Text
+    ensures { λ r. ⌜ r ≡ wrote t (values (digitsOf width) (columns width (now (dst .entry)) row 0 16)) ⌝ }
 {
-    if file.len() <= i {
-        return 0;
-    }
-    file[i]
-}
-
-// The sixteen values of a row.
-pub(crate) fn push_row(t: Text, dst: &[u32], row: u32) -> Text
-    ensures { λ r. ⌜ r ≡ wrote t (values (columns (now (dst .entry)) row 0 16)) ⌝ }
-{
+    let digits = cells::digits(width);
     let first = row as usize * 16;
     let mut out = t;
     let mut k = 0;
     while k < 16 {
-        out = push_value(out, number_at(dst, first + k));
+        out = push_value(out, digits, cells::read(width, dst, first + k));
         k += 1;
     }
     out

@@ -1,32 +1,60 @@
 // What one field does to the lent numbers.
+use cells::Part;
 use cells::Span;
+use cells::Width;
 use control::Control;
 use datum::File;
 use job::Kind;
 ghost use mathlib.Core.Path.{_≡_};
 ghost use mathlib.Core.List.{List};
-ghost use Prim.Native.Nat.{ℕ};
+ghost use Prim.Native.Nat.{ℕ, _≤_};
+ghost use lib.ListN.{length};
+ghost use Rattle.cells.specs.declared.Width.the-variants as Width;
 ghost use Rattle.cells.specs.Cells.{over, within};
+ghost use Rattle.cells.specs.Parts.{placeIn, overPart};
 ghost use Rattle.rules.specs.Rows.{bankRow, register, span};
 ghost use Rattle.step.specs.State.{state};
 ghost use Rattle.job.specs.Values.{registerValue};
 ghost use Rattle.precheck.specs.Fields.{loadedRows};
 ghost use Rattle.precheck.specs.Check.{issueOf};
-ghost use Rattle.run.specs.Perform.{loaded, withSrc, srcOf, performed};
+ghost use Rattle.run.specs.Perform.{valueFrom, loaded, withSrc, srcOf, performed};
+
+// The places from `lo` on and before `hi` that lie in a part get the numbers of the load rows field at `place`. Number 0 of the part stands at `base`.
+fn load_part(
+    part: Part,
+    base: usize,
+    job: &[u8],
+    place: usize,
+    lo: usize,
+    hi: usize,
+    file: &mut [u32],
+)
+    requires { ⌜ (lo ≤ hi) × (base ≡ placeIn part (length (now file)) 0) ⌝ }
+    ensures { λ _. ⌜ now (file .exit) ≡ overPart part lo hi (valueFrom (now (job .entry)) place lo) (now (file .entry)) ⌝ }
+{
+    let n = file.len();
+    let end = cells::cut_in(part, n, hi);
+    let mut i = cells::cut_in(part, n, lo);
+    while i < end {
+        let v = job::row_value(job, place, base + i - lo);
+        file[i] = cells::with_part(part, file[i], v);
+        i += 1;
+    }
+}
 
 // The rows of a bank get the numbers of the load rows field at `place`; places past the end are passed over.
-fn load_rows(job: &[u8], place: usize, bank: u8, rows: Span, file: &mut [u32])
-    ensures { λ _. ⌜ now (file .exit) ≡ loaded (now (job .entry)) place (span (bankRow bank (rows .first)) (rows .count)) (now (file .entry)) ⌝ }
+fn load_rows(width: Width, job: &[u8], place: usize, bank: u8, rows: Span, file: &mut [u32])
+    ensures { λ _. ⌜ now (file .exit) ≡ loaded width (now (job .entry)) place (span (bankRow bank (rows .first)) (rows .count)) (now (file .entry)) ⌝ }
 {
     let lo = (bank as usize * 64 + rows.first as usize) * 16;
     let hi = lo + rows.count as usize * 16;
-    let mut p = lo;
-    while p < hi {
-        if file.len() <= p {
-            return;
+    match width {
+        Width::Bits32 => load_part(Part::Whole, 0, job, place, lo, hi, file),
+        Width::Bits16 => {
+            load_part(Part::Low, 0, job, place, lo, hi, file);
+            let n = file.len();
+            load_part(Part::High, n, job, place, lo, hi, file);
         }
-        file[p] = job::row_value(job, place, p - lo);
-        p += 1;
     }
 }
 
@@ -42,11 +70,11 @@ fn load_src(
 )
     ensures { λ _. ⌜ ((d r : List ℕ) → state (now (srca .exit)) (now (srcb .exit)) d r
         ≡ withSrc (state (now (srca .entry)) (now (srcb .entry)) d r) which
-        (loaded (now (job .entry)) place (loadedRows c which rows) (srcOf (state (now (srca .entry)) (now (srcb .entry)) d r) which))) ⌝ }
+        (loaded Width.Bits32 (now (job .entry)) place (loadedRows c which rows) (srcOf (state (now (srca .entry)) (now (srcb .entry)) d r) which))) ⌝ }
 {
     match which {
-        File::A => load_rows(job, place, c.a.unpack, rows, srca),
-        File::B => load_rows(job, place, c.b.unpack, rows, srcb),
+        File::A => load_rows(Width::Bits32, job, place, c.a.unpack, rows, srca),
+        File::B => load_rows(Width::Bits32, job, place, c.b.unpack, rows, srcb),
     }
 }
 
@@ -77,7 +105,7 @@ pub(crate) fn perform(
     match kind {
         Kind::Settings => {}
         Kind::LoadSrc { file, rows } => load_src(job, c, place, file, rows, srca, srcb),
-        Kind::LoadDst { rows } => load_rows(job, place, 0, rows, dst),
+        Kind::LoadDst { width, rows } => load_rows(width, job, place, 0, rows, dst),
         Kind::LoadRegister { thread, register } => load_register(
             job,
             place,
@@ -87,12 +115,12 @@ pub(crate) fn perform(
         ),
         Kind::HandOver { file: _ } => {}
         Kind::Issue { thread: _, word: _ } => {}
-        Kind::OutputRows { rows: _ } => {}
+        Kind::OutputRows { width: _, rows: _ } => {}
         Kind::OutputRegister {
             thread: _,
             register: _,
         } => {}
-        Kind::ZeroRows { rows } => cells::fill_rows(rows, 0, dst),
+        Kind::ZeroRows { width, rows } => cells::fill_rows(width, rows, 0, dst),
         Kind::Wrong => {}
     }
 }

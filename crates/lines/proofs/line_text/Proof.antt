@@ -1,6 +1,7 @@
 -- `lines::line_text` meets its contract: a word, numbers and values, one after the other. Assumes nothing.
 use Rattle.lines.proofs.Texts.{row-text, value-text}
 use Rattle.lines.specs.Text.{lineOf}
+use Rattle.cells.specs.Places.{getAt}
 use native.Mathlib.Omega.{arith}
 use mathlib.Core.Path.{_∙_}
 use borrow.Author.Needs.{needs}
@@ -58,20 +59,20 @@ cast-push-decimal-3 c = search needs
 push-decimal-requires-3 : tie.Need-push-decimal-requires-3
 push-decimal-requires-3 c κs = search needs
 
-cast-number-at : tie.Need-cast-number-at
-cast-number-at c = search needs
+cast-at : tie.Need-cast-at
+cast-at c = search needs
 
-mul-number-at : tie.Need-mul-number-at
-mul-number-at c = search needs
+mul-at : tie.Need-mul-at
+mul-at c = search needs
 
-cast-number-at-2 : tie.Need-cast-number-at-2
-cast-number-at-2 c = search needs
+cast-at-2 : tie.Need-cast-at-2
+cast-at-2 c = search needs
 
-add-number-at : tie.Need-add-number-at
-add-number-at c = search needs
+add-at : tie.Need-add-at
+add-at c = search needs
 
-number-at-requires : tie.Need-number-at-requires
-number-at-requires c κs = search needs
+read-requires : tie.Need-read-requires
+read-requires c κs = search needs
 
 push-value-requires : tie.Need-push-value-requires
 push-value-requires c κs = search needs
@@ -81,13 +82,14 @@ push-requires-3 c κs = search needs
 
 returns : tie.Need-returns
 unfolding lineOf
-returns c = rw (c .before .before .before .before .before .before .before .what .given .1) (row-text _ _ _ (omega arith)
+returns c = rw (c .before .before .before .before .before .before .before .what .given .1) (row-text _ _ _ _ (omega arith)
     ((c .push .ensures) ∙ rw ((c .before .push-row .ensures), (c .before .before .push-decimal .ensures), (c .before .before .before .push-word .ensures), (c .before .before .before .before .before .empty .ensures))))
 
 returns-2 : tie.Need-returns-2
-unfolding lineOf
-returns-2 c = rw (c .before .before .before .before .before .before .before .before .before .before .what2 .given .1) (value-text _ _ _ _ (omega arith) (omega (arith, (c .before .before .before .before .before .before .before .before .before .known-told2 .given)))
-    ((c .push3 .ensures) ∙ rw ((c .before .push-value .ensures), (c .before .before .number-at .ensures), (c .before .before .before .push-decimal3 .ensures), (c .before .before .before .before .push2 .ensures), (c .before .before .before .before .before .push-decimal2 .ensures), (c .before .before .before .before .before .before .push-word2 .ensures), (c .before .before .before .before .before .before .before .before .empty2 .ensures))))
+unfolding lineOf getAt
+returns-2 c = let known = c .before .before .before .before .before .before .before .before .before .known-told2 .given in
+    rw (c .before .before .before .before .before .before .before .before .before .before .what2 .given .1) (value-text _ _ _ _ (omega (arith, known)) (omega (arith, known))
+    ((c .push3 .ensures) ∙ rw ((c .before .push-value .ensures), (c .before .before .read .ensures), (c .before .before .before .push-decimal3 .ensures), (c .before .before .before .before .push2 .ensures), (c .before .before .before .before .before .push-decimal2 .ensures), (c .before .before .before .before .before .before .push-word2 .ensures), (c .before .before .before .before .before .before .before .before .empty2 .ensures))))
 
 pub line-text-spec : {M : Type 1} → statement M
 line-text-spec =
@@ -110,11 +112,11 @@ line-text-spec =
     push-requires-2
     cast-push-decimal-3
     push-decimal-requires-3
-    cast-number-at
-    mul-number-at
-    cast-number-at-2
-    add-number-at
-    number-at-requires
+    cast-at
+    mul-at
+    cast-at-2
+    add-at
+    read-requires
     push-value-requires
     push-requires-3
     returns

@@ -1,4 +1,5 @@
 -- `lines::what_at` meets its contract: a row of a field's span fits. Assumes nothing.
+use Rattle.lines.proofs.Walk.{rows-few}
 use native.Mathlib.Omega.{arith}
 use borrow.Author.Needs.{needs}
 use Rattle.lines.proofs.what_at.Statement.{statement}
@@ -25,8 +26,8 @@ enum-told-6 c = search needs
 enum-known-kind : tie.Need-enum-known-kind
 enum-known-kind c = search needs
 
-add-t7 : tie.Need-add-t7
-add-t7 c = let p = rw (c .before .before .kind .given .1) at (c .before .before .before .before .pre) in omega arith
+add-t9 : tie.Need-add-t9
+add-t9 c = let p = rw (c .before .before .kind .given .1) at (c .before .before .before .before .pre) in omega (arith, rows-few (c .before .before .kind .given .0 .0))
 
 enum-known-kind-2 : tie.Need-enum-known-kind-2
 enum-known-kind-2 c = search needs
@@ -78,7 +79,7 @@ what-at-spec =
     enum-told-5
     enum-told-6
     enum-known-kind
-    add-t7
+    add-t9
     enum-known-kind-2
     enum-told-7
     enum-told-8

@@ -2,30 +2,34 @@
 use Rattle.lines.proofs.Texts.{columns-on, columns-done}
 use Rattle.lines.specs.Text.{wrote, values}
 use Rattle.lines.specs.Lines.{columns}
+use Rattle.cells.specs.Places.{digitsOf}
 use native.Mathlib.Omega.{arith}
 use Prim.Native.Nat.{_-_, _≤_}
-use mathlib.Core.Path.{_≡_, refl, sym, _∙_}
+use mathlib.Core.Path.{_≡_, sym, _∙_}
 use borrow.Author.Needs.{needs}
 use Rattle.lines.proofs.write.push_row.Statement.{statement}
 use Rattle.lines.proofs.write.push_row.Tie as tie
 
 abbrev Inv-loop : tie.InvT-loop
-Inv-loop dst row first out₀ k₀ out k = (wrote out (values (columns dst row k (16 - k))) ≡ wrote out₀ (values (columns dst row 0 16))) × (k ≤ 16)
+Inv-loop width dst row digits first out₀ k₀ out k = (wrote out (values digits (columns width dst row k (16 - k))) ≡ wrote out₀ (values (digitsOf width) (columns width dst row 0 16))) × (k ≤ 16)
 
 abbrev μ-loop : tie.MeasureT-loop
-μ-loop dst row first out₀ k₀ out k = 16 - k
+μ-loop width dst row digits first out₀ k₀ out k = 16 - k
+
+digits-requires : tie.Need-digits-requires Inv-loop μ-loop
+digits-requires c κs = search needs
 
 mul-first : tie.Need-mul-first Inv-loop μ-loop
 mul-first c = search needs
 
 loop-holds : tie.Need-loop-holds Inv-loop μ-loop
-loop-holds c = (refl, omega arith)
+loop-holds c = (rw (c .digits .ensures), omega arith)
 
-add-number-at : tie.Need-add-number-at Inv-loop μ-loop
-add-number-at c = search needs
+add-read : tie.Need-add-read Inv-loop μ-loop
+add-read c = search needs
 
-number-at-requires : tie.Need-number-at-requires Inv-loop μ-loop
-number-at-requires c κs = search needs
+read-requires : tie.Need-read-requires Inv-loop μ-loop
+read-requires c κs = search needs
 
 push-value-requires : tie.Need-push-value-requires Inv-loop μ-loop
 push-value-requires c κs = search needs
@@ -37,10 +41,10 @@ loop-less : tie.Need-loop-less Inv-loop μ-loop
 loop-less c = omega arith
 
 loop-again : tie.Need-loop-again Inv-loop μ-loop
-loop-again c = (rw ((c .push-value .ensures), (c .before .number-at .ensures)) (sym (columns-on _ _ _ _ (c .before .before .loop-test .taken))) ∙ (c .before .before .before .loop .inv .0), omega arith)
+loop-again c = (rw ((c .push-value .ensures), (c .before .read .ensures)) (sym (columns-on _ _ _ _ _ _ (c .before .before .loop-test .taken))) ∙ (c .before .before .before .loop .inv .0), omega arith)
 
 returns : tie.Need-returns Inv-loop μ-loop
-returns c = sym (columns-done _ _ _ _ (c .loop-test .left)) ∙ (c .before .loop .inv .0)
+returns c = sym (columns-done _ _ _ _ _ _ (c .loop-test .left)) ∙ (c .before .loop .inv .0)
 
 pub push-row-spec : {M : Type 1} → statement M
 push-row-spec =
@@ -48,10 +52,11 @@ push-row-spec =
     (tie.spec
     Inv-loop
     μ-loop
+    digits-requires
     mul-first
     loop-holds
-    add-number-at
-    number-at-requires
+    add-read
+    read-requires
     push-value-requires
     add-k
     loop-less

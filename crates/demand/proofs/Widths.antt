@@ -1,0 +1,70 @@
+-- In a job of right shape each issue field meets a record that has the job's width: the settings come first and once, and no other field changes
+-- them. Assumes nothing.
+use mathlib.Core.Path.{_≡_, ap, _∙_}
+use mathlib.Core.Bool.{true, false≢true}
+use mathlib.Core.List.{List, [], _∷_}
+use mathlib.Core.Logic.{⊎-elim}
+use Prim.Native.Nat.{ℕ, _≤_, _<_}
+use native.Mathlib.Nat.{min-le-left}
+use native.Mathlib.Omega.{arith}
+use borrow.Author.Tests.{ltb-true, ltb-false}
+use lib.Dec.{ltb}
+use lib.ListN.{length, drop, length-take}
+use Rattle.cells.proofs.Cells.{split}
+use Rattle.control.specs.declared.Control.{Control}
+use Rattle.control.specs.Record.{start, widthOf}
+use Rattle.job.specs.Bytes.{le2}
+use Rattle.job.specs.Fields.{payloadAt, jobWidth, fieldAt, fieldsFrom}
+use Rattle.job.specs.Shape.{shapeOf}
+use Rattle.job.specs.declared.Kind.the-variants.{Settings}
+use Rattle.job.specs.declared.Field.{Field}
+use Rattle.job.specs.declared.Shape.the-variants.{Right}
+use Rattle.job.proofs.Walk.{place-at, fields-step, fields-end}
+use Rattle.job.proofs.Shaped.{Outputs, Acts, Ordered, sound-at, shaped}
+use Rattle.job.proofs.Settled.{settings-field, settled-width}
+use Rattle.precheck.specs.Fields.{fieldControl}
+use Rattle.precheck.proofs.Kept.{settings-kept}
+use Rattle.demand.specs.Breaks.{isIssue}
+
+module _ (job : List ℕ) where
+  -- from the record c on, each issue field of a list meets the job's width
+  abbrev pub Wide : Control → List Field → Type 0
+  Wide c [] = Unit {0}
+  Wide c (f ∷ fs) = (isIssue (f .kind) ≡ true → widthOf (c .settings) ≡ jobWidth job) × Wide (fieldControl job c (f .place) (f .kind)) fs
+
+  -- fields that leave the settings
+  outputs-wide : (fs : List Field) (c : Control) → widthOf (c .settings) ≡ jobWidth job → Outputs fs → Wide c fs
+  outputs-wide [] c h o = tt
+  outputs-wide (f ∷ fs) c h o = (λ i. h, outputs-wide fs _ (ap widthOf (settings-kept job c (f .place) (f .kind) 1 (o .0)) ∙ h) (o .1))
+
+  acts-wide : (fs : List Field) (c : Control) → widthOf (c .settings) ≡ jobWidth job → Acts fs → Wide c fs
+  acts-wide [] c h a = tt
+  acts-wide (f ∷ fs) c h a = (
+    λ i. h,
+    ⊎-elim
+        (λ x. acts-wide fs _ (ap widthOf (settings-kept job c (f .place) (f .kind) 0 (x .0)) ∙ h) (x .1))
+        (λ x. outputs-wide fs _ (ap widthOf (settings-kept job c (f .place) (f .kind) 1 (x .0)) ∙ h) (x .1))
+        a,
+  )
+
+  -- the settings field, at place 0
+  settles : 0 < length job → fieldAt job 0 .kind ≡ Settings
+      → widthOf (fieldControl job start (fieldAt job 0 .place) (fieldAt job 0 .kind) .settings) ≡ jobWidth job
+  unfolding fieldControl
+  settles h e =
+      let p = place-at job 0 in
+      let long : length (payloadAt job 0) ≡ 160 = rw p at (settings-field job (fieldAt job 0) (sound-at job 0 h) e .long) in
+      let most : length (payloadAt job 0) ≤ le2 job 1 = rw length-take (min-le-left (le2 job 1) (length (drop 3 job))) in
+      rw (p, e) (settled-width start job (omega arith))
+
+  pub wide : shapeOf job ≡ Right → Wide start (fieldsFrom job 0)
+  wide r =
+      let o = shaped job r .order in
+      split (ltb 0 (length job))
+      (λ b.
+      let h : 0 < length job = ltb-true 0 (length job) b in
+      let f = fieldAt job 0 in
+      let fs = fieldsFrom job (f .next) in
+      let n : Ordered (f ∷ fs) = rw (fields-step job 0 h) at o in
+      rw (fields-step job 0 h) (λ i. absurd (false≢true (rw (n .0) at i)), acts-wide fs (fieldControl job start (f .place) (f .kind)) (settles h (n .0)) (n .1)))
+      (λ b. let none : Ordered [] = rw (fields-end job 0 (ltb-false 0 (length job) b)) at o in absurd none)
