@@ -1,19 +1,27 @@
--- `rules::broken::is_modelled` meets its contract. Assumes nothing.
-use mathlib.Core.Path.{ap}
-use mathlib.Core.Bool.{_||_}
-use Rattle.rules.specs.Rules.{fp32Mode}
+-- `rules::broken::is_modelled` meets its contract: the two modes in one test. Assumes nothing.
+use mathlib.Core.Path.{_≡_, refl}
+use mathlib.Core.Bool.{Bool, true, false, not, _&&_, _||_}
+use lib.Dec.{eqb}
 use borrow.Author.Needs.{needs}
 use Rattle.rules.proofs.broken.is_modelled.Statement.{statement}
 use Rattle.rules.proofs.broken.is_modelled.Tie as tie
 
-cast-bf16-mode : tie.Need-cast-bf16-mode
-cast-bf16-mode c = search needs
-
-bf16-mode-requires : tie.Need-bf16-mode-requires
-bf16-mode-requires c κs = search needs
+-- Fp32, INT8, FP16A force, format 2, format 6
+both-modes : (f i h two six : Bool) → ((not i && not h) && (two || (f && six))) ≡ ((((f && not i) && not h) && (two || six)) || (((not f && not i) && not h) && two))
+both-modes true true h two six = refl
+both-modes false true h two six = refl
+both-modes true false true two six = refl
+both-modes false false true two six = refl
+both-modes true false false true six = refl
+both-modes true false false false true = refl
+both-modes true false false false false = refl
+both-modes false false false true six = refl
+both-modes false false false false six = refl
 
 returns : tie.Need-returns
-returns c = ap (_||_ (fp32Mode (c .before .before .before .before .before .before .before .args .s))) (c .«bf16-mode» .ensures)
+returns c =
+    let s = c .before .before .before .before .before .args .s in
+    both-modes (s .fp32) (s .int8) (s .fp16a) (eqb (s .format) 2) (eqb (s .format) 6)
 
 pub is-modelled-spec : {M : Type 1} → statement M
-is-modelled-spec = tie.close (tie.spec cast-bf16-mode bf16-mode-requires returns)
+is-modelled-spec = tie.close (tie.spec returns)
