@@ -33,8 +33,9 @@ extern "C" {
 
 /* Dst has 8,192 numbers in either mode. The settings of the job, or of a step's record, say how its rows lie in them.
    With Fp32, INT8 and FP16A force off and format 2, the BF16 mode, there are 1,024 rows of 16-bit numbers: row r below
-   512 is the low half of lent row r, row r from 512 up the high half of lent row r - 512. Else there are 512 rows of
-   32-bit numbers, as they were lent.
+   512 is the low half of lent row r, row r from 512 up the high half of lent row r - 512. Writing one half keeps the
+   other, and a load of Dst rows with a number of 2^16 or more is refused with 1. Else there are 512 rows of 32-bit
+   numbers, as they were lent.
 
    A multiply is refused with 5 where the settings are modelled in neither mode: they are not those of the BF16 mode, nor
    Fp32 on, INT8 and FP16A force off and format 2 or 6. In the BF16 mode 7 is never given, as each multiply's first row

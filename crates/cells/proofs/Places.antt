@@ -14,7 +14,7 @@ use borrow.Author.Tests.{ltb-true, ltb-false, eqb-true, eqb-false, lt-ltb, le-lt
 use Rattle.cells.specs.declared.Width.{Width}
 use Rattle.cells.specs.declared.Width.the-variants.{Bits32, Bits16}
 use Rattle.cells.specs.Cells.{mapi, over, between, within, cell}
-use Rattle.cells.specs.Places.{placesOf, kept, halfAt, halves, overHalves, getAt, overAt}
+use Rattle.cells.specs.Places.{limitOf, placesOf, kept, halfAt, halves, overHalves, getAt, overAt}
 use Rattle.cells.proofs.Cells.{split, length-mapi, getD-mapi, length-over, over-in, over-out, within-true, between-in, between-after, between-rows, empty, one-more, apart}
 
 -- ---- halves
@@ -81,6 +81,14 @@ pub past-end : (w : Width) (d : List ℕ) (i : ℕ) → placesOf w (length d) �
 unfolding getAt
 past-end Bits32 d i h = List·getD-eq-default d 0 h
 past-end Bits16 d i h = half-high d i (omega arith) ∙ ap (λ (x : ℕ). x / 65536) (List·getD-eq-default d 0 (omega arith))
+
+-- the numbers of a file of 32-bit numbers are below the limit of the width
+pub at-limit : (w : Width) (d : List ℕ) (p : ℕ) → ((i : ℕ) → getD d i 0 < limitOf Bits32) → getAt w d p < limitOf w
+unfolding getAt
+at-limit Bits32 d p h = h p
+at-limit Bits16 d p h =
+    split (ltb p (length d)) (λ t. rw (half-low d p (ltb-true p (length d) t)) (omega arith))
+    (λ t. rw (half-high d p (ltb-false p (length d) t)) (omega (arith, h (p - length d))))
 
 -- two lists that hold the same numbers are the same: there is nothing else in a lent number
 pub ext-at : (w : Width) (d e : List ℕ) → length d ≡ length e → ((i : ℕ) → i < placesOf w (length d) → getAt w d i ≡ getAt w e i) → d ≡ e

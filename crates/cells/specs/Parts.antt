@@ -1,5 +1,5 @@
--- A run of rows lies in one part of its lent numbers: the whole numbers, their low halves or their high halves. What the functions that go over
--- the numbers of such a run leave. Definitions only.
+-- A row lies in one part of its lent numbers: the whole numbers, their low halves or their high halves. A stretch of places is gone over part by
+-- part, number after number. Definitions only.
 use mathlib.Core.Bool.{cond}
 use mathlib.Core.List.{List}
 use Prim.Native.Nat.{ℕ, _+_, _-_, _*_, _/_, _%_}
@@ -47,10 +47,11 @@ abbrev pub partAt : Width → ℕ → ℕ → Part
 partAt Bits32 n p = Whole
 partAt Bits16 n p = cond (ltb p n) Low High
 
--- the number where the stretch in a part begins or ends that begins or ends at place p: at most n
+-- i, or n where i is more
 abbrev pub cut : ℕ → ℕ → ℕ
 cut n i = cond (ltb i n) i n
 
+-- A stretch begins or ends at place p: this is the number of the part, of n numbers, where what it has there begins or ends.
 abbrev pub cutIn : Part → ℕ → ℕ → ℕ
 cutIn a n p = cut n (numberIn a n p)
 

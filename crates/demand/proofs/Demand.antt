@@ -37,7 +37,7 @@ use Rattle.lines.specs.Lines.{linesOf}
 use Rattle.demand.specs.Breaks.{FirstBroken, issueFields}
 use Rattle.demand.specs.Demand.{Unbroken, Demand3, Demand1, JobModes}
 use Rattle.demand.proofs.Agreement.{Agree, byRow, alone}
-use Rattle.demand.proofs.Widths.{wide}
+use Rattle.demand.proofs.Widths.{first-width, wide}
 use Rattle.demand.proofs.Modes.{none-breaks-seven}
 use Rattle.demand.proofs.Passed.{counted, Ended, ended}
 use Rattle.demand.proofs.Refused.{none-breaks, first-breaks}
@@ -173,6 +173,7 @@ module _ (job : List ℕ) where
   pub job-modes : JobModes job
   job-modes =
       record {
+        width = first-width job;
         check = check-modes;
         run = λ q s r p o. ⊎-elim (λ n z. omega (arith, n, z)) (check-modes q r p) (refused s r p o .1);
       }

@@ -1,22 +1,24 @@
 -- Which numbers the two Dst modes leave: of a word, and of the fields of a job. Assumes nothing.
 use mathlib.Core.Path.{_≡_, refl, sym, ap, _∙_}
-use mathlib.Core.Bool.{Bool, true, false, false≢true, not, _||_}
+use mathlib.Core.Bool.{Bool, true, false, false≢true, not, _&&_, _||_}
 use mathlib.Core.List.{List, [], _∷_}
-use mathlib.Core.Logic.{⊎-elim}
+use mathlib.Core.Logic.{inl, inr, ⊎-elim}
 use Prim.Native.Nat.{ℕ, zero, suc}
 use native.Mathlib.Omega.{arith}
-use borrow.Author.Tests.{lt-leb}
-use lib.Dec.{leb}
+use borrow.Author.Tests.{lt-leb, eqb-true, not-true}
+use lib.Dec.{leb, eqb}
 use Rattle.cells.specs.declared.Width.{Width}
-use Rattle.cells.specs.declared.Width.the-variants.{Bits16}
+use Rattle.cells.specs.declared.Width.the-variants.{Bits32, Bits16}
 use Rattle.cells.specs.Places.{rowCount}
+use Rattle.cells.proofs.Cells.{split, both}
 use Rattle.word.specs.Word.{wordFields}
 use Rattle.word.specs.declared.Fields.{Fields}
 use Rattle.word.specs.declared.Fields.the-variants as fields
 use Rattle.control.specs.declared.Control.{Control}
-use Rattle.control.specs.Record.{widthOf}
+use Rattle.control.specs.declared.Settings.{Settings}
+use Rattle.control.specs.Record.{bf16Mode, widthOf}
 use Rattle.rules.specs.Rows.{rowDst}
-use Rattle.rules.specs.Rules.{rules, unmodelled, rowWrong, fieldRules as wordRules}
+use Rattle.rules.specs.Rules.{rules, fp32Mode, unmodelled, rowWrong, fieldRules as wordRules}
 use Rattle.rules.proofs.Places.{row-dst-below}
 use Rattle.job.specs.Fields.{jobWidth}
 use Rattle.job.specs.declared.Kind.{Kind}
@@ -25,9 +27,53 @@ use Rattle.job.specs.declared.Field.{Field}
 use Rattle.precheck.specs.Marks.{Marks}
 use Rattle.precheck.specs.Fields.{fieldRules, fieldControl, fieldMarks}
 use Rattle.demand.specs.Breaks.{brokenNumber, breaks, isIssue}
-use Rattle.demand.specs.Demand.{Unmodelled, WordModes}
+use Rattle.demand.specs.Demand.{InBf16, InFp32, Unmodelled, SettingsModes, WordModes}
 use Rattle.demand.proofs.Steps.{judged, refused-by}
 use Rattle.demand.proofs.Widths.{Wide}
+
+-- ---- the modes, as they are spelled out and as the rules test them
+
+in-fp32 : (s : Settings) → fp32Mode s ≡ true → InFp32 s
+in-fp32 s e =
+    let a = both _ (eqb (s .format) 2 || eqb (s .format) 6) e in
+    let b = both _ (not (s .fp16a)) (a .0) in
+    let d = both (s .fp32) (not (s .int8)) (b .0) in
+    record {
+      fp32 = d .0;
+      int8 = not-true (s .int8) (d .1);
+      fp16a = not-true (s .fp16a) (b .1);
+      format = either (eqb (s .format) 2) _ (a .1) (λ t. inl (eqb-true _ _ t)) (λ t. inr (eqb-true _ _ t));
+    }
+  where
+    either : {X : Type 0} (a b : Bool) → (a || b) ≡ true → (a ≡ true → X) → (b ≡ true → X) → X
+    either true b e f g = f refl
+    either false b e f g = g e
+
+fp32-tested : (s : Settings) → InFp32 s → fp32Mode s ≡ true
+fp32-tested s m = rw (m .fp32, m .int8, m .fp16a) (⊎-elim (λ t. rw t) (λ t. rw t) (m .format))
+
+in-bf16 : (s : Settings) → bf16Mode (s .format) (s .fp32) (s .int8) (s .fp16a) ≡ true → InBf16 s
+in-bf16 s e =
+    let a = both _ (eqb (s .format) 2) e in
+    let b = both _ (not (s .fp16a)) (a .0) in
+    let d = both (not (s .fp32)) (not (s .int8)) (b .0) in
+    record { fp32 = not-true (s .fp32) (d .0); int8 = not-true (s .int8) (d .1); fp16a = not-true (s .fp16a) (b .1); format = eqb-true _ _ (a .1) }
+
+bf16-tested : (s : Settings) → InBf16 s → bf16Mode (s .format) (s .fp32) (s .int8) (s .fp16a) ≡ true
+bf16-tested s m = rw (m .fp32, m .int8, m .fp16a, m .format)
+
+pub settings-modes : (s : Settings) → SettingsModes s
+settings-modes s =
+    record {
+      halves = λ m. rw (bf16-tested s m);
+      bf16 = λ e. split (bf16Mode (s .format) (s .fp32) (s .int8) (s .fp16a)) (in-bf16 s)
+          (λ t. absurd (let w : Bits32 ≡ Bits16 = rw t at e in let z : 512 ≡ 1024 = ap rowCount w in omega arith));
+    }
+
+-- a mode that settings are not in is not found by its test
+off : {X : Type 0} (b : Bool) → (b ≡ true → X) → (X → ⊥) → b ≡ false
+off true f n = absurd (n (f refl))
+off false f n = refl
 
 -- ---- 5 exactly when neither mode is modelled
 
@@ -38,7 +84,14 @@ both-off false false h = (refl, refl)
 
 module _ (c : Control) (w : ℕ) where
   neither : (f : Fields) → wordFields w ≡ f → (unmodelled c f || false) ≡ true → Unmodelled (c .settings) w
-  neither (fields.Multiply m) e h = let b = both-off _ _ h in record { multiply = m; word = e; fp32 = b .0; bf16 = b .1 }
+  neither (fields.Multiply m) e h =
+      let b = both-off (fp32Mode (c .settings)) _ h in
+      record {
+        multiply = m;
+        word = e;
+        not-fp32 = λ x. false≢true (sym (b .0) ∙ fp32-tested (c .settings) x);
+        not-bf16 = λ x. false≢true (sym (b .1) ∙ bf16-tested (c .settings) x);
+      }
   neither (fields.Legacy l) e h = absurd (false≢true h)
   neither (fields.SetCounters s) e h = absurd (false≢true h)
   neither (fields.AddCounters s) e h = absurd (false≢true h)
@@ -94,10 +147,11 @@ module _ (c : Control) (t w : ℕ) where
   word-modes =
       record {
         unmodelled = λ h. neither c w (wordFields w) refl h;
-        five = λ u. ap (λ (f : Fields). unmodelled c f || false) (u .word) ∙ (λ i. not (u .fp32 i || u .bf16 i) || false);
-        not-seven = not-seven;
-        step = λ q s r e. ⊎-elim
-            (λ j z. false≢true (sym (not-seven q) ∙ rw z at (judged c t w s r j .broken)))
+        five = λ u. ap (λ (f : Fields). unmodelled c f || false) (u .word)
+            ∙ (λ i. not (off (fp32Mode (c .settings)) (in-fp32 (c .settings)) (u .not-fp32) i || off _ (in-bf16 (c .settings)) (u .not-bf16) i) || false);
+        not-seven = λ m. not-seven (settings-modes (c .settings) .halves m);
+        step = λ m s r e. ⊎-elim
+            (λ j z. false≢true (sym (not-seven (settings-modes (c .settings) .halves m)) ∙ rw z at (judged c t w s r j .broken)))
             (⊎-elim (λ o z. omega (arith, o, z)) (λ o z. omega (arith, o, z)))
             (refused-by c t w s r e);
       }

@@ -1,6 +1,6 @@
 -- In a job of right shape each issue field meets a record that has the job's width: the settings come first and once, and no other field changes
 -- them. Assumes nothing.
-use mathlib.Core.Path.{_≡_, ap, _∙_}
+use mathlib.Core.Path.{_≡_, sym, ap, _∙_}
 use mathlib.Core.Bool.{true, false≢true}
 use mathlib.Core.List.{List, [], _∷_}
 use mathlib.Core.Logic.{⊎-elim}
@@ -15,8 +15,8 @@ use Rattle.control.specs.declared.Control.{Control}
 use Rattle.control.specs.Record.{start, widthOf}
 use Rattle.job.specs.Bytes.{le2}
 use Rattle.job.specs.Fields.{payloadAt, jobWidth, fieldAt, fieldsFrom}
+use Rattle.job.specs.Settings.{settled}
 use Rattle.job.specs.Shape.{shapeOf}
-use Rattle.job.specs.declared.Kind.the-variants.{Settings}
 use Rattle.job.specs.declared.Field.{Field}
 use Rattle.job.specs.declared.Shape.the-variants.{Right}
 use Rattle.job.proofs.Walk.{place-at, fields-step, fields-end}
@@ -47,24 +47,27 @@ module _ (job : List ℕ) where
         a,
   )
 
-  -- the settings field, at place 0
-  settles : 0 < length job → fieldAt job 0 .kind ≡ Settings
-      → widthOf (fieldControl job start (fieldAt job 0 .place) (fieldAt job 0 .kind) .settings) ≡ jobWidth job
-  unfolding fieldControl
-  settles h e =
-      let p = place-at job 0 in
-      let long : length (payloadAt job 0) ≡ 160 = rw p at (settings-field job (fieldAt job 0) (sound-at job 0 h) e .long) in
-      let most : length (payloadAt job 0) ≤ le2 job 1 = rw length-take (min-le-left (le2 job 1) (length (drop 3 job))) in
-      rw (p, e) (settled-width start job (omega arith))
+  -- the first field of a right shape is the settings, at place 0
+  module _ (r : shapeOf job ≡ Right) where
+    some : 0 < length job
+    some =
+        split (ltb 0 (length job)) (λ b. ltb-true 0 (length job) b)
+        (λ b. let none : Ordered [] = rw (fields-end job 0 (ltb-false 0 (length job) b)) at (shaped job r .order) in absurd none)
 
-  pub wide : shapeOf job ≡ Right → Wide start (fieldsFrom job 0)
-  wide r =
-      let o = shaped job r .order in
-      split (ltb 0 (length job))
-      (λ b.
-      let h : 0 < length job = ltb-true 0 (length job) b in
-      let f = fieldAt job 0 in
-      let fs = fieldsFrom job (f .next) in
-      let n : Ordered (f ∷ fs) = rw (fields-step job 0 h) at o in
-      rw (fields-step job 0 h) (λ i. absurd (false≢true (rw (n .0) at i)), acts-wide fs (fieldControl job start (f .place) (f .kind)) (settles h (n .0)) (n .1)))
-      (λ b. let none : Ordered [] = rw (fields-end job 0 (ltb-false 0 (length job) b)) at o in absurd none)
+    order : Ordered (fieldAt job 0 ∷ fieldsFrom job (fieldAt job 0 .next))
+    order = rw (fields-step job 0 some) at (shaped job r .order)
+
+    pub first-width : jobWidth job ≡ widthOf (settled start (payloadAt job 0) .settings)
+    first-width =
+        let long : length (payloadAt job 0) ≡ 160 = rw (place-at job 0) at (settings-field job (fieldAt job 0) (sound-at job 0 some) (order .0) .long) in
+        let most : length (payloadAt job 0) ≤ le2 job 1 = rw length-take (min-le-left (le2 job 1) (length (drop 3 job))) in
+        sym (settled-width start job (omega arith))
+
+    settles : widthOf (fieldControl job start (fieldAt job 0 .place) (fieldAt job 0 .kind) .settings) ≡ jobWidth job
+    unfolding fieldControl
+    settles = rw (place-at job 0, order .0) (sym first-width)
+
+    pub wide : Wide start (fieldsFrom job 0)
+    wide =
+        let f = fieldAt job 0 in
+        rw (fields-step job 0 some) (λ i. absurd (false≢true (rw (order .0) at i)), acts-wide (fieldsFrom job (f .next)) (fieldControl job start (f .place) (f .kind)) settles (order .1))

@@ -14,12 +14,13 @@ use Rattle.word.specs.declared.Refusal.{Refusal}
 use Rattle.word.specs.declared.Refusal.the-variants.{Shape, StateLength}
 use Rattle.control.specs.declared.Control.{Control}
 use Rattle.control.specs.declared.Settings.{Settings}
-use Rattle.control.specs.Record.{start, bf16Mode, widthOf}
-use Rattle.rules.specs.Rules.{rules, judgement, fp32Mode}
+use Rattle.control.specs.Record.{start, widthOf}
+use Rattle.rules.specs.Rules.{rules, judgement}
 use Rattle.rules.specs.declared.Verdict.the-variants as verdict
 use Rattle.step.specs.State.{State, sized}
 use Rattle.step.specs.Step.{verdictOf, steppedOf, stateOf}
-use Rattle.job.specs.Fields.{jobWidth, fieldsFrom}
+use Rattle.job.specs.Fields.{payloadAt, jobWidth, fieldsFrom}
+use Rattle.job.specs.Settings.{settled}
 use Rattle.job.specs.Shape.{shapeOf}
 use Rattle.job.specs.Values.{beforeWrong, OtherValues}
 use Rattle.job.specs.declared.Shape.the-variants.{Right, WrongAt}
@@ -75,14 +76,33 @@ pub record StepDemand1 (c : Control) (t w : ℕ) (s : State) : Type 0 where
   pub lowest : (r : Refusal) → judgement c t w ≡ verdict.Refused r → (j : ℕ) → j < numberOf r → brokenNumber j (rules c t w) ≡ false
   pub unbroken : judgement c t w ≡ verdict.Done → (j : ℕ) → brokenNumber j (rules c t w) ≡ false
 
--- ---- the two Dst modes: rows of 32-bit numbers, and in the BF16 mode of 16-bit numbers
+-- ---- the two Dst modes, spelled out apart from the definitions that the rules and the widths go by
 
--- a multiply under settings that are modelled in neither mode
+-- the BF16 mode: rows of 16-bit numbers
+pub record InBf16 (s : Settings) : Type 0 where
+  pub fp32 : s .fp32 ≡ false
+  pub int8 : s .int8 ≡ false
+  pub fp16a : s .fp16a ≡ false
+  pub format : s .format ≡ 2
+
+-- the other mode that is modelled: rows of 32-bit numbers
+pub record InFp32 (s : Settings) : Type 0 where
+  pub fp32 : s .fp32 ≡ true
+  pub int8 : s .int8 ≡ false
+  pub fp16a : s .fp16a ≡ false
+  pub format : (s .format ≡ 2) ⊎ (s .format ≡ 6)
+
+-- a multiply under settings of neither
 pub record Unmodelled (s : Settings) (w : ℕ) : Type 0 where
   pub multiply : Multiply
   pub word : wordFields w ≡ fields.Multiply multiply
-  pub fp32 : fp32Mode s ≡ false
-  pub bf16 : bf16Mode (s .format) (s .fp32) (s .int8) (s .fp16a) ≡ false
+  pub not-fp32 : InFp32 s → ⊥
+  pub not-bf16 : InBf16 s → ⊥
+
+-- rows are of 16-bit numbers exactly in the BF16 mode
+pub record SettingsModes (s : Settings) : Type 0 where
+  pub halves : InBf16 s → widthOf s ≡ Bits16
+  pub bf16 : widthOf s ≡ Bits16 → InBf16 s
 
 -- a word, under any record and thread
 pub record WordModes (c : Control) (t w : ℕ) : Type 0 where
@@ -90,10 +110,12 @@ pub record WordModes (c : Control) (t w : ℕ) : Type 0 where
   pub unmodelled : brokenNumber 5 (rules c t w) ≡ true → Unmodelled (c .settings) w
   pub five : Unmodelled (c .settings) w → brokenNumber 5 (rules c t w) ≡ true
   -- 7 cannot occur in the BF16 mode: it is not broken, and no single step is refused with it
-  pub not-seven : widthOf (c .settings) ≡ Bits16 → brokenNumber 7 (rules c t w) ≡ false
-  pub step : widthOf (c .settings) ≡ Bits16 → (s : State) (r : Refusal) → verdictOf c t w s ≡ verdict.Refused r → numberOf r ≢ 7
+  pub not-seven : InBf16 (c .settings) → brokenNumber 7 (rules c t w) ≡ false
+  pub step : InBf16 (c .settings) → (s : State) (r : Refusal) → verdictOf c t w s ≡ verdict.Refused r → numberOf r ≢ 7
 
--- a job in the BF16 mode: neither the pre-check nor a run over any state refuses it with 7
 pub record JobModes (job : List ℕ) : Type 0 where
+  -- in a job of right shape, fields go by the width of the record that its settings make
+  pub width : shapeOf job ≡ Right → jobWidth job ≡ widthOf (settled start (payloadAt job 0) .settings)
+  -- neither the pre-check nor a run over any state refuses a job in the BF16 mode with 7
   pub check : jobWidth job ≡ Bits16 → (r : Refusal) (p : ℕ) → precheckOf job ≡ checked.Refused r p → numberOf r ≢ 7
   pub run : jobWidth job ≡ Bits16 → (s : State) (r : Refusal) (p : ℕ) → runOf job s .outcome ≡ Refused r p → numberOf r ≢ 7
