@@ -8,27 +8,26 @@ use lib.Dec.{eqb, ltb}
 use lib.ListN.{length, getD, take, replicate, length-set}
 use lib.Seq.{take-suc, take-length}
 use borrow.Author.Tests.{eqb-true, eq-eqb, ltb-true, lt-ltb, le-ltb}
-use Rattle.cells.specs.Cells.{over, between}
+use Rattle.cells.specs.Cells.{over, between, tabulate}
 use Rattle.cells.proofs.Cells.{split, both, length-over, over-in, between-in}
 use Rattle.cells.proofs.Tests.{each-of, below-of, of-below, set-keeps}
 use Rattle.control.specs.Record.{zeroSlot, startThread, start, threadAt, withThread}
 use Rattle.control.specs.Change.{clearBanks, applySlot, moveOn, setCounters, addCounters}
 use Rattle.control.specs.Range.{srcTests, dstTests, slotTests, slotOk, slotsOk, threadTests, threadOk, threadsOk, banksTests, settingsTests, rangeTests, inRange}
 use Rattle.word.specs.declared.Clear.{Clear}
-use Rattle.word.specs.declared.Fields.{Fields}
-use Rattle.word.specs.declared.Fields.the-variants as fields
+use Rattle.word.specs.declared.Operands.{Operands}
+use Rattle.word.specs.declared.Operands.the-variants as operands
 use Rattle.control.specs.declared.Slot.{Slot}
 use Rattle.control.specs.declared.Thread.{Thread}
 use Rattle.control.specs.declared.Control.{Control}
 use Rattle.control.proofs.Kept.{shared-bounds}
-use Rattle.rules.specs.After.{acting, fieldsAfter, controlAfter}
+use Rattle.rules.specs.After.{acting, recordAfter, controlAfter}
 use Rattle.rules.specs.declared.Verdict.{Verdict}
 use Rattle.rules.specs.declared.Verdict.the-variants as verdict
-use Rattle.step.specs.State.{State}
+use Rattle.cells.specs.State.{State}
 use Rattle.step.specs.Step.{verdictOf, ifDone, steppedOf}
-use Rattle.job.specs.Settings.{table}
 use Rattle.precheck.proofs.Kept.{after-kept}
-use Rattle.capi.specs.Record.{flag, threadNumbers, sharedNumbers, slotNumber, threadNumber, numberAt, byte, half, on, slotFrom, slotsFrom, threadFrom, controlFrom, readOf, numbersOf, stands, noRecord, recordOf, recordAfter}
+use Rattle.capi.specs.Record.{flag, threadNumbers, sharedNumbers, slotNumber, threadNumber, numberAt, byte, half, on, slotFrom, slotsFrom, threadFrom, controlFrom, readOf, numbersOf, stands, noRecord, recordOf, numbersAfter}
 use Rattle.capi.proofs.Steps.{reads-as, in-range-stands, stands-long, done-in-range}
 
 -- ---- one number
@@ -43,14 +42,14 @@ byte-of {n} {m} k e h l = let i = ltb-true m k h in omega arith
 half-of : {n m : ℕ} → n ≡ m → ltb m 1024 ≡ true → half n ≡ m
 half-of {n} {m} e h = let i = ltb-true m 1024 h in omega arith
 
--- ---- a table of a list's entries is the list
+-- ---- a tabulate of a list's entries is the list
 
-table-take : {A : Type 0} (l : List A) (d : A) (f : ℕ → A) (n : ℕ) → n ≤ length l → ((k : ℕ) → k < n → f k ≡ getD l k d) → table n f ≡ take n l
+table-take : {A : Type 0} (l : List A) (d : A) (f : ℕ → A) (n : ℕ) → n ≤ length l → ((k : ℕ) → k < n → f k ≡ getD l k d) → tabulate n f ≡ take n l
 table-take l d f zero h e = refl
 table-take l d f (suc n) h e =
     (λ i. table-take l d f n (omega arith) (λ k g. e k (omega arith)) i ++ (e n (omega arith) i ∷ [])) ∙ sym (take-suc l n d (omega arith))
 
-table-back : {A : Type 0} (l : List A) (d : A) (f : ℕ → A) (n : ℕ) → length l ≡ n → ((k : ℕ) → k < n → f k ≡ getD l k d) → table n f ≡ l
+table-back : {A : Type 0} (l : List A) (d : A) (f : ℕ → A) (n : ℕ) → length l ≡ n → ((k : ℕ) → k < n → f k ≡ getD l k d) → tabulate n f ≡ l
 table-back l d f n h e = table-take l d f n (omega arith) e ∙ ap (λ (k : ℕ). take k l) (sym h) ∙ take-length l
 
 -- ---- level by level: n gives the numbers of s, of x, of c
@@ -77,7 +76,7 @@ slot-back s n ok at =
         carry = on-of (s .dst .carry) (a 8 refl) j;
         copy = on-of (s .dst .copy) (a 9 refl) j;
       };
-      fidelity = record { step = byte-of 4 (a 10 refl) (e .1 .1 .1 .0) (omega arith) j; clear = on-of (s .fidelity .clear) (a 11 refl) j };
+      phase = record { step = byte-of 4 (a 10 refl) (e .1 .1 .1 .0) (omega arith) j; clear = on-of (s .phase .clear) (a 11 refl) j };
     }
 
 slots-back : (l : List Slot) (n : ℕ → ℕ) → length l ≡ 8 → slotsOk l ≡ true → ((i : ℕ) → i < 96 → n i ≡ slotNumber (getD l (i / 12) zeroSlot) (i % 12)) → slotsFrom n ≡ l
@@ -221,22 +220,22 @@ move-whole : (c : Control) (t n : ℕ) → Whole c → Whole (moveOn c t n)
 unfolding moveOn applySlot
 move-whole c t n w = with-thread-whole c t _ w (w .slots t)
 
-fields-whole : (c : Control) (t : ℕ) (f : Fields) → Whole c → Whole (fieldsAfter c t f)
-unfolding fieldsAfter setCounters addCounters
-fields-whole c t (fields.Multiply m) w = same-whole (moveOn (clearBanks c (m .clear)) t (m .slot)) _ refl (move-whole _ t (m .slot) (clear-whole c (m .clear) w))
-fields-whole c t (fields.Legacy l) w = move-whole _ t (l .slot) (clear-whole c (l .clear) w)
-fields-whole c t (fields.SetCounters s) w = let d = clear-whole c (s .clear) w in with-thread-whole _ t _ d (d .slots t)
-fields-whole c t (fields.AddCounters s) w = with-thread-whole c t _ w (w .slots t)
-fields-whole c t (fields.ZeroSrc z) w = w
-fields-whole c t (fields.ShiftA mode) w = w
-fields-whole c t (fields.ShiftB s) w = move-whole c t (s .slot) w
-fields-whole c t fields.NoEffect w = w
-fields-whole c t (fields.Scalar s) w = w
+fields-whole : (c : Control) (t : ℕ) (f : Operands) → Whole c → Whole (recordAfter c t f)
+unfolding recordAfter setCounters addCounters
+fields-whole c t (operands.Multiply m) w = same-whole (moveOn (clearBanks c (m .clear)) t (m .slot)) _ refl (move-whole _ t (m .slot) (clear-whole c (m .clear) w))
+fields-whole c t (operands.Legacy l) w = move-whole _ t (l .slot) (clear-whole c (l .clear) w)
+fields-whole c t (operands.SetCounters s) w = let d = clear-whole c (s .clear) w in with-thread-whole _ t _ d (d .slots t)
+fields-whole c t (operands.AddCounters s) w = with-thread-whole c t _ w (w .slots t)
+fields-whole c t (operands.ZeroSrc z) w = w
+fields-whole c t (operands.ShiftA mode) w = w
+fields-whole c t (operands.ShiftB s) w = move-whole c t (s .slot) w
+fields-whole c t operands.NoEffect w = w
+fields-whole c t (operands.Scalar s) w = w
 
 -- ---- steps can be chained: the numbers after a step stand for the record after it
 
-pub chained : (l : List ℕ) (t w : ℕ) (s : State) → recordOf (recordAfter l t w s) ≡ steppedOf (recordOf l) t w s .control
-unfolding recordAfter steppedOf controlAfter
+pub chained : (l : List ℕ) (t w : ℕ) (s : State) → recordOf (numbersAfter l t w s) ≡ steppedOf (recordOf l) t w s .control
+unfolding numbersAfter steppedOf controlAfter
 chained l t w s = go (verdictOf (recordOf l) t w s) refl
   where
     go : (v : Verdict) → verdictOf (recordOf l) t w s ≡ v

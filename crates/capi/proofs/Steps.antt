@@ -15,12 +15,12 @@ use Rattle.control.specs.Record.{start}
 use Rattle.control.specs.Range.{slotsOk, threadsOk, inRange}
 use Rattle.rules.specs.Rules.{verdictAnswer}
 use Rattle.rules.specs.declared.Verdict.the-variants.{Done, Refused}
-use Rattle.step.specs.State.{State, sized}
+use Rattle.cells.specs.State.{State, sized}
 use Rattle.step.specs.Step.{ifDone, steppedOf, stateOf, stepAnswer}
 use Rattle.step.specs.declared.Stepped.{Stepped}
-use Rattle.step.proofs.Sizes.{Sizes, sized-of}
+use Rattle.cells.proofs.Sizes.{Sizes, sized-of}
 use Rattle.step.proofs.Verdicts.{Left, by-length, by-record, by-thread}
-use Rattle.capi.specs.Record.{numberAt, readOf, numbersOf, stands, noRecord, recordOf, recordAfter}
+use Rattle.capi.specs.Record.{numberAt, readOf, numbersOf, stands, noRecord, recordOf, numbersAfter}
 
 -- ---- reading
 
@@ -107,15 +107,15 @@ module _ (l : List ℕ) (t w : ℕ) (s : State) where
   pub record Did (r : Stepped) (after : State) : Type 0 where
     pub answer : verdictAnswer (r .verdict) ≡ stepAnswer (recordOf l) t w s
     pub state : after ≡ stateOf (recordOf l) t w s
-    pub refused : (x : Refusal) → r .verdict ≡ Refused x → l ≡ recordAfter l t w s
-    pub done : r .verdict ≡ Done → over (between 0 332) (numberAt (r .control)) l ≡ recordAfter l t w s
+    pub refused : (x : Refusal) → r .verdict ≡ Refused x → l ≡ numbersAfter l t w s
+    pub done : r .verdict ≡ Done → over (between 0 332) (numberAt (r .control)) l ≡ numbersAfter l t w s
     pub long : r .verdict ≡ Done → length l ≡ 332
 
   pub did : {c : Control} {b : ℕ} {r : Stepped} {after : State} → c ≡ recordOf l → b ≡ threadByte t → r ≡ steppedOf c b w s → after ≡ stateOf c b w s → Did r after
-  unfolding stepAnswer recordAfter steppedOf
+  unfolding stepAnswer numbersAfter steppedOf
   did {c} {b} {r} {after} e f g k =
       let q : r ≡ steppedOf (recordOf l) t w s = g ∙ (λ i. steppedOf (e i) (f i) w s) ∙ same-thread (recordOf l) t w s .0 in
-      let numbers : ifDone (r .verdict) (over (between 0 332) (numberAt (r .control)) l) l ≡ recordAfter l t w s =
+      let numbers : ifDone (r .verdict) (over (between 0 332) (numberAt (r .control)) l) l ≡ numbersAfter l t w s =
       ap (λ (x : Stepped). ifDone (x .verdict) (over (between 0 332) (numberAt (x .control)) l) l) q in
       record {
         answer = ap (λ (x : Stepped). verdictAnswer (x .verdict)) q;

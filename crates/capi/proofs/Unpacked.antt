@@ -17,7 +17,7 @@ use Rattle.control.specs.Record.{start}
 use Rattle.rules.specs.Rules.{lowest, verdictAnswer}
 use Rattle.rules.specs.declared.Verdict.{Verdict}
 use Rattle.rules.specs.declared.Verdict.the-variants as verdict
-use Rattle.step.specs.State.{State, sized}
+use Rattle.cells.specs.State.{State, sized}
 use Rattle.step.specs.Step.{steppedOf, stepAnswer}
 use Rattle.job.specs.Fields.{jobWidth, fieldAt, fieldsFrom}
 use Rattle.job.specs.Shape.{classOf, stageAfter, shapeFrom, shapeOf}

@@ -6,7 +6,7 @@ use mathlib.Core.List.{List, [], _∷_}
 use Prim.Native.Nat.{ℕ, _+_, _-_, _*_, _/_, _%_}
 use lib.Dec.{eqb, ltb}
 use lib.ListN.{length, getD}
-use Rattle.cells.specs.Cells.{over, between}
+use Rattle.cells.specs.Cells.{over, between, tabulate}
 use Rattle.cells.specs.Tests.{below}
 use Rattle.control.specs.Record.{zeroSlot, start, threadAt, withLast}
 use Rattle.control.specs.declared.SrcStep.{SrcStep}
@@ -19,8 +19,7 @@ use Rattle.control.specs.declared.Thread.{Thread}
 use Rattle.control.specs.declared.Settings.{Settings}
 use Rattle.control.specs.declared.Banks.{Banks}
 use Rattle.control.specs.declared.Control.{Control}
-use Rattle.job.specs.Settings.{table}
-use Rattle.step.specs.State.{State}
+use Rattle.cells.specs.State.{State}
 use Rattle.step.specs.Step.{verdictOf, ifDone, steppedOf}
 
 -- ---- the numbers of a record
@@ -35,7 +34,7 @@ slotNumbers s =
     s .a .step .0 ∷ flag (s .a .clear) ∷ flag (s .a .carry) ∷
     s .b .step .0 ∷ flag (s .b .clear) ∷ flag (s .b .carry) ∷
     s .dst .step .0 ∷ flag (s .dst .clear) ∷ flag (s .dst .carry) ∷ flag (s .dst .copy) ∷
-    s .fidelity .step ∷ flag (s .fidelity .clear) ∷ []
+    s .phase .step ∷ flag (s .phase .clear) ∷ []
 
 -- Dst, Dst_Cr, SrcA, SrcA_Cr, SrcB, SrcB_Cr, FidelityPhase, ExtraAddrModBit, math offset, fidelity base
 abbrev pub threadNumbers : Thread → List ℕ
@@ -88,24 +87,24 @@ slotFrom n =
       a = srcStepOf (n 0) (n 1) (n 2);
       b = srcStepOf (n 3) (n 4) (n 5);
       dst = dstStepOf (n 6) (n 7) (n 8) (n 9);
-      fidelity = phaseStepOf (n 10) (n 11);
+      phase = phaseStepOf (n 10) (n 11);
     }
 
 unfoldable pub slotsFrom : (ℕ → ℕ) → List Slot
-slotsFrom n = table 8 (λ (s : ℕ). slotFrom (λ i. n (12 * s + i)))
+slotsFrom n = tabulate 8 (λ (s : ℕ). slotFrom (λ i. n (12 * s + i)))
 
-abbrev pub dstOf : ℕ → ℕ → Dst
-dstOf at carry = record { at = record { 0 = half at }; carry = record { 0 = half carry } }
+abbrev pub dstFrom : ℕ → ℕ → Dst
+dstFrom at carry = record { at = record { 0 = half at }; carry = record { 0 = half carry } }
 
-abbrev pub srcOf : ℕ → ℕ → Src
-srcOf at carry = record { at = record { 0 = byte at }; carry = record { 0 = byte carry } }
+abbrev pub srcFrom : ℕ → ℕ → Src
+srcFrom at carry = record { at = record { 0 = byte at }; carry = record { 0 = byte carry } }
 
 unfoldable pub threadFrom : (ℕ → ℕ) → Thread
 threadFrom n =
     record {
-      dst = dstOf (n 0) (n 1);
-      a = srcOf (n 2) (n 3);
-      b = srcOf (n 4) (n 5);
+      dst = dstFrom (n 0) (n 1);
+      a = srcFrom (n 2) (n 3);
+      b = srcFrom (n 4) (n 5);
       phase = byte (n 6);
       extra = on (n 7);
       offset = half (n 8);
@@ -113,19 +112,19 @@ threadFrom n =
       slots = slotsFrom (λ i. n (10 + i));
     }
 
-abbrev pub settingsOf : ℕ → ℕ → ℕ → ℕ → ℕ → Settings
-settingsOf format fp32 int8 fp16a base = record { format = byte format; fp32 = on fp32; int8 = on int8; fp16a = on fp16a; base = half base }
+abbrev pub settingsFrom : ℕ → ℕ → ℕ → ℕ → ℕ → Settings
+settingsFrom format fp32 int8 fp16a base = record { format = byte format; fp32 = on fp32; int8 = on int8; fp16a = on fp16a; base = half base }
 
-abbrev pub banksOf : ℕ → ℕ → ℕ → ℕ → Banks
-banksOf matrix unpack owned0 owned1 = record { matrix = byte matrix; unpack = byte unpack; owned0 = on owned0; owned1 = on owned1 }
+abbrev pub banksFrom : ℕ → ℕ → ℕ → ℕ → Banks
+banksFrom matrix unpack owned0 owned1 = record { matrix = byte matrix; unpack = byte unpack; owned0 = on owned0; owned1 = on owned1 }
 
 unfoldable pub controlFrom : (ℕ → ℕ) → Control
 controlFrom n =
     record {
-      settings = settingsOf (n 0) (n 1) (n 2) (n 3) (n 4);
-      threads = table 3 (λ (t : ℕ). threadFrom (λ i. n (14 + 106 * t + i)));
-      a = banksOf (n 5) (n 6) (n 7) (n 8);
-      b = banksOf (n 9) (n 10) (n 11) (n 12);
+      settings = settingsFrom (n 0) (n 1) (n 2) (n 3) (n 4);
+      threads = tabulate 3 (λ (t : ℕ). threadFrom (λ i. n (14 + 106 * t + i)));
+      a = banksFrom (n 5) (n 6) (n 7) (n 8);
+      b = banksFrom (n 9) (n 10) (n 11) (n 12);
       last = byte (n 13);
     }
 
@@ -148,5 +147,5 @@ recordOf l = cond (stands l) (readOf l) noRecord
 
 -- ---- the numbers after a step: those of the record after it; refusing, as they came
 
-unfoldable pub recordAfter : List ℕ → ℕ → ℕ → State → List ℕ
-recordAfter l t w s = ifDone (verdictOf (recordOf l) t w s) (over (between 0 332) (numberAt (steppedOf (recordOf l) t w s .control)) l) l
+unfoldable pub numbersAfter : List ℕ → ℕ → ℕ → State → List ℕ
+numbersAfter l t w s = ifDone (verdictOf (recordOf l) t w s) (over (between 0 332) (numberAt (steppedOf (recordOf l) t w s .control)) l) l

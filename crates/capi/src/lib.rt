@@ -9,12 +9,12 @@ ghost use mathlib.Core.Bool.{cond};
 ghost use lib.Dec.{ltb};
 ghost use Rattle.word.specs.Refusal.{refused};
 ghost use Rattle.rules.specs.Rules.{verdictAnswer};
-ghost use Rattle.step.specs.State.{state};
+ghost use Rattle.cells.specs.State.{state};
 ghost use Rattle.step.specs.Step.{stateOf, stepAnswer};
 ghost use Rattle.precheck.specs.Check.{checkedAnswer, precheckAnswer};
 ghost use Rattle.run.specs.Run.{runOf, outcomeAnswer, runAnswer};
 ghost use Rattle.capi.specs.Packed.{packed};
-ghost use Rattle.capi.specs.Record.{recordOf, recordAfter};
+ghost use Rattle.capi.specs.Record.{recordOf, numbersAfter};
 
 fn pack_refusal(number: u8, place: usize) -> u64
     ensures { λ r. ⌜ r ≡ packed (refused number place) ⌝ }
@@ -94,7 +94,7 @@ pub extern "C" fn vintrazzola_step(
     ensures { λ r. ⌜ (r ≡ packed (stepAnswer (recordOf (now (numbers .entry))) thread word (state (now (srca .entry)) (now (srcb .entry)) (now (dst .entry)) (now (registers .entry)))))
         × (state (now (srca .exit)) (now (srcb .exit)) (now (dst .exit)) (now (registers .exit))
         ≡ stateOf (recordOf (now (numbers .entry))) thread word (state (now (srca .entry)) (now (srcb .entry)) (now (dst .entry)) (now (registers .entry))))
-        × (now (numbers .exit) ≡ recordAfter (now (numbers .entry)) thread word (state (now (srca .entry)) (now (srcb .entry)) (now (dst .entry)) (now (registers .entry)))) ⌝ }
+        × (now (numbers .exit) ≡ numbersAfter (now (numbers .entry)) thread word (state (now (srca .entry)) (now (srcb .entry)) (now (dst .entry)) (now (registers .entry)))) ⌝ }
 {
     let before = record::read(numbers);
     let stepped = step::step(

@@ -15,7 +15,7 @@ ghost use mathlib.Core.Path.{_≡_};
 ghost use Prim.Native.Nat.{_+_, _<_, _≤_};
 ghost use lib.ListN.{length, getD};
 ghost use Rattle.cells.specs.Cells.{over, between};
-ghost use Rattle.capi.specs.Record.{threadNumbers, sharedNumbers, slotNumber, threadNumber, numberAt, srcStepOf, dstStepOf, phaseStepOf, slotFrom, slotsFrom, dstOf, srcOf, threadFrom, settingsOf, banksOf, readOf, numbersOf, noRecord, recordOf};
+ghost use Rattle.capi.specs.Record.{threadNumbers, sharedNumbers, slotNumber, threadNumber, numberAt, srcStepOf, dstStepOf, phaseStepOf, slotFrom, slotsFrom, dstFrom, srcFrom, threadFrom, settingsFrom, banksFrom, readOf, numbersOf, noRecord, recordOf};
 
 // ---- the number at a place
 
@@ -34,8 +34,8 @@ fn slot_number(s: Slot, p: usize) -> u32
         s.dst.clear as u32,
         s.dst.carry as u32,
         s.dst.copy as u32,
-        s.fidelity.step as u32,
-        s.fidelity.clear as u32,
+        s.phase.step as u32,
+        s.phase.clear as u32,
     ];
     numbers[p]
 }
@@ -162,7 +162,7 @@ fn read_slot(n: &[u32], b: usize) -> Slot
         a: read_src_step(n, b),
         b: read_src_step(n, b + 3),
         dst: read_dst_step(n, b + 6),
-        fidelity: read_phase_step(n, b + 10),
+        phase: read_phase_step(n, b + 10),
     }
 }
 
@@ -184,7 +184,7 @@ fn read_slots(n: &[u32], b: usize) -> [Slot; 8]
 
 fn read_dst(n: &[u32], b: usize) -> Dst
     requires { ⌜ b + 2 ≤ length (now n) ⌝ }
-    ensures { λ r. ⌜ r ≡ dstOf (getD (now (n .entry)) b 0) (getD (now (n .entry)) (b + 1) 0) ⌝ }
+    ensures { λ r. ⌜ r ≡ dstFrom (getD (now (n .entry)) b 0) (getD (now (n .entry)) (b + 1) 0) ⌝ }
 {
     Dst {
         at: Counter10((n[b] % 65536) as u16),
@@ -194,7 +194,7 @@ fn read_dst(n: &[u32], b: usize) -> Dst
 
 fn read_src(n: &[u32], b: usize) -> Src
     requires { ⌜ b + 2 ≤ length (now n) ⌝ }
-    ensures { λ r. ⌜ r ≡ srcOf (getD (now (n .entry)) b 0) (getD (now (n .entry)) (b + 1) 0) ⌝ }
+    ensures { λ r. ⌜ r ≡ srcFrom (getD (now (n .entry)) b 0) (getD (now (n .entry)) (b + 1) 0) ⌝ }
 {
     Src {
         at: Counter6((n[b] % 256) as u8),
@@ -220,7 +220,7 @@ fn read_thread(n: &[u32], b: usize) -> Thread
 
 fn read_settings(n: &[u32]) -> Settings
     requires { ⌜ 5 ≤ length (now n) ⌝ }
-    ensures { λ r. ⌜ r ≡ settingsOf (getD (now (n .entry)) 0 0) (getD (now (n .entry)) 1 0) (getD (now (n .entry)) 2 0) (getD (now (n .entry)) 3 0) (getD (now (n .entry)) 4 0) ⌝ }
+    ensures { λ r. ⌜ r ≡ settingsFrom (getD (now (n .entry)) 0 0) (getD (now (n .entry)) 1 0) (getD (now (n .entry)) 2 0) (getD (now (n .entry)) 3 0) (getD (now (n .entry)) 4 0) ⌝ }
 {
     Settings {
         format: (n[0] % 256) as u8,
@@ -233,7 +233,7 @@ fn read_settings(n: &[u32]) -> Settings
 
 fn read_banks(n: &[u32], b: usize) -> Banks
     requires { ⌜ b + 4 ≤ length (now n) ⌝ }
-    ensures { λ r. ⌜ r ≡ banksOf (getD (now (n .entry)) b 0) (getD (now (n .entry)) (b + 1) 0) (getD (now (n .entry)) (b + 2) 0) (getD (now (n .entry)) (b + 3) 0) ⌝ }
+    ensures { λ r. ⌜ r ≡ banksFrom (getD (now (n .entry)) b 0) (getD (now (n .entry)) (b + 1) 0) (getD (now (n .entry)) (b + 2) 0) (getD (now (n .entry)) (b + 3) 0) ⌝ }
 {
     Banks {
         matrix: (n[b] % 256) as u8,

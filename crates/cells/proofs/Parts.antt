@@ -15,7 +15,7 @@ use Rattle.cells.specs.declared.Part.{Part}
 use Rattle.cells.specs.declared.Part.the-variants.{Whole, Low, High}
 use Rattle.cells.specs.Cells.{between, within}
 use Rattle.cells.specs.Places.{getAt, overAt}
-use Rattle.cells.specs.Parts.{widthIn, partOf, withPart, placeIn, numberIn, partAt, cut, cutIn, overPart}
+use Rattle.cells.specs.Parts.{widthIn, heldIn, withPart, placeIn, numberIn, partAt, cut, cutIn, overPart}
 use Rattle.cells.proofs.Cells.{split, both, set-one, between-after}
 use Rattle.cells.proofs.Places.{half-low, half-high, length-at, at-agree, at-twice, at-between-none, rows-at, turn-at, ahead-at, store-low, store-high}
 
@@ -32,7 +32,7 @@ place-up Whole n lo i h = h
 place-up Low n lo i h = h
 place-up High n lo i h = omega arith
 
-pub get-part : (a : Part) (d : List ℕ) (i : ℕ) → i < length d → partOf a (getD d i 0) ≡ getAt (widthIn a) d (placeIn a (length d) i)
+pub get-part : (a : Part) (d : List ℕ) (i : ℕ) → i < length d → heldIn a (getD d i 0) ≡ getAt (widthIn a) d (placeIn a (length d) i)
 unfolding getAt
 get-part Whole d i h = refl
 get-part Low d i h = sym (half-low d i h)
@@ -73,7 +73,7 @@ module _ (a : Part) (f : ℕ → ℕ) (d₀ : List ℕ) where
   gone-length d lo k e = ap length e ∙ length-at (widthIn a) _ f d₀
 
   -- number k holds there what it held before
-  pub gone-ahead : (d : List ℕ) (lo k : ℕ) → k < length d₀ → d ≡ gone lo k → partOf a (getD d k 0) ≡ getAt (widthIn a) d₀ (placeIn a (length d₀) k)
+  pub gone-ahead : (d : List ℕ) (lo k : ℕ) → k < length d₀ → d ≡ gone lo k → heldIn a (getD d k 0) ≡ getAt (widthIn a) d₀ (placeIn a (length d₀) k)
   unfolding gone
   gone-ahead d lo k h e =
       let n : length d ≡ length d₀ = gone-length d lo k e in

@@ -11,10 +11,11 @@ use lib.ListN.{length, getD, set, length-set, List·getD-eq-default}
 use lib.Seq.{ext-getD, getD-set-same, getD-set-other}
 use lib.Dec.{ltb, eqb}
 use borrow.Author.Tests.{ltb-true, ltb-false, eqb-true, eqb-false, lt-ltb, le-ltb}
+use Rattle.cells.specs.Layout.{cell}
 use Rattle.cells.specs.declared.Width.{Width}
 use Rattle.cells.specs.declared.Width.the-variants.{Bits32, Bits16}
-use Rattle.cells.specs.Cells.{mapi, over, between, within, cell}
-use Rattle.cells.specs.Places.{limitOf, placesOf, kept, halfAt, halves, overHalves, getAt, overAt}
+use Rattle.cells.specs.Cells.{mapi, over, between, within}
+use Rattle.cells.specs.Places.{limitOf, placesOf, keptIn, halfAt, halves, overHalves, getAt, overAt}
 use Rattle.cells.proofs.Cells.{split, length-mapi, getD-mapi, length-over, over-in, over-out, within-true, between-in, between-after, between-rows, empty, one-more, apart}
 
 -- ---- halves
@@ -50,7 +51,7 @@ half-high d i h = rw (le-ltb i (length d) h)
 
 -- the number at a place: the new one where p holds, and the old one elsewhere
 pub at-over : (w : Width) (p : ℕ → Bool) (f : ℕ → ℕ) (d : List ℕ) (i : ℕ) → i < placesOf w (length d)
-    → getAt w (overAt w p f d) i ≡ cond (p i) (kept w (f i)) (getAt w d i)
+    → getAt w (overAt w p f d) i ≡ cond (p i) (keptIn w (f i)) (getAt w d i)
 unfolding getAt overAt
 at-over Bits32 p f d i h = split (p i) (λ e. over-in p f d i 0 e h ∙ rw e) (λ e. over-out p f d i 0 e ∙ rw e)
 at-over Bits16 p f d i h =
@@ -109,10 +110,10 @@ ext-at Bits16 d e l h =
 
 module _ (w : Width) where
   -- read inside what was written, the new number
-  pub at-in : (p : ℕ → Bool) (f : ℕ → ℕ) (d : List ℕ) (i : ℕ) → p i ≡ true → i < placesOf w (length d) → getAt w (overAt w p f d) i ≡ kept w (f i)
+  pub at-in : (p : ℕ → Bool) (f : ℕ → ℕ) (d : List ℕ) (i : ℕ) → p i ≡ true → i < placesOf w (length d) → getAt w (overAt w p f d) i ≡ keptIn w (f i)
   at-in p f d i e h = at-over w p f d i h ∙ rw e
 
-  -- and outside the old one: a half is kept when the other is written
+  -- and outside the old one: a half is keptIn when the other is written
   pub at-out : (p : ℕ → Bool) (f : ℕ → ℕ) (d : List ℕ) (i : ℕ) → p i ≡ false → getAt w (overAt w p f d) i ≡ getAt w d i
   at-out p f d i e =
       split (ltb i (placesOf w (length d)))
@@ -129,10 +130,10 @@ module _ (w : Width) where
       (λ i b.
       let b′ : i < placesOf w (length (overAt w p f d)) = rw length-at at b in
       let c : i < placesOf w (length d) = rw length-at at b′ in
-      split (q i) (λ e. at-in q g (overAt w p f d) i e b′ ∙ ap (kept w) (new i c e .1) ∙ sym (at-in r h d i (new i c e .0) c))
+      split (q i) (λ e. at-in q g (overAt w p f d) i e b′ ∙ ap (keptIn w) (new i c e .1) ∙ sym (at-in r h d i (new i c e .0) c))
       (λ e.
       at-out q g (overAt w p f d) i e
-      ∙ split (p i) (λ t. at-in p f d i t c ∙ ap (kept w) (old i c e .1 t) ∙ sym (at-in r h d i (old i c e .0 ∙ t) c)) (λ t. at-out p f d i t ∙ sym (at-out r h d i (old i c e .0 ∙ t)))))
+      ∙ split (p i) (λ t. at-in p f d i t c ∙ ap (keptIn w) (old i c e .1 t) ∙ sym (at-in r h d i (old i c e .0 ∙ t) c)) (λ t. at-out p f d i t ∙ sym (at-out r h d i (old i c e .0 ∙ t)))))
 
   -- two rules that agree at each place overwrite alike
   pub at-agree : (p q : ℕ → Bool) (f g : ℕ → ℕ) (d : List ℕ) → ((i : ℕ) → i < placesOf w (length d) → p i ≡ q i)
@@ -142,7 +143,7 @@ module _ (w : Width) where
       (λ i b.
       let c : i < placesOf w (length d) = rw length-at at b in
       split (q i)
-      (λ e. at-in p f d i (same i c ∙ e) c ∙ ap (kept w) (new i c e) ∙ sym (at-in q g d i e c))
+      (λ e. at-in p f d i (same i c ∙ e) c ∙ ap (keptIn w) (new i c e) ∙ sym (at-in q g d i e c))
       (λ e. at-out p f d i (same i c ∙ e) ∙ sym (at-out q g d i e)))
 
   -- no place of the list

@@ -19,10 +19,10 @@ widthIn Low = Bits16
 widthIn High = Bits16
 
 -- what the part of a number holds
-abbrev pub partOf : Part → ℕ → ℕ
-partOf Whole x = x
-partOf Low x = x % 65536
-partOf High x = x / 65536
+abbrev pub heldIn : Part → ℕ → ℕ
+heldIn Whole x = x
+heldIn Low x = x % 65536
+heldIn High x = x / 65536
 
 -- a number with that part anew; the other half stays
 abbrev pub withPart : Part → ℕ → ℕ → ℕ

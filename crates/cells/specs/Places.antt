@@ -5,15 +5,16 @@ use mathlib.Core.List.{List}
 use Prim.Native.Nat.{ℕ, _+_, _-_, _*_, _/_, _%_, _^_}
 use lib.ListN.{length, getD}
 use lib.Dec.{ltb}
-use Rattle.cells.specs.declared.Span.{Span}
+use Rattle.cells.specs.declared.layout.Span.{Span}
 use Rattle.cells.specs.declared.Width.{Width}
 use Rattle.cells.specs.declared.Width.the-variants.{Bits32, Bits16}
+use Rattle.cells.specs.Layout.{columnCount, dstRows}
 use Rattle.cells.specs.Cells.{mapi, over, inSpan}
 
 -- how many rows Dst has
 abbrev pub rowCount : Width → ℕ
-rowCount Bits32 = 512
-rowCount Bits16 = 1024
+rowCount Bits32 = dstRows
+rowCount Bits16 = 2 * dstRows
 
 -- the values are below this
 abbrev pub limitOf : Width → ℕ
@@ -30,10 +31,10 @@ abbrev pub placesOf : Width → ℕ → ℕ
 placesOf Bits32 n = n
 placesOf Bits16 n = n + n
 
--- a value as a place keeps it: a value below the limit is kept as it is
-abbrev pub kept : Width → ℕ → ℕ
-kept Bits32 v = v
-kept Bits16 v = v % 65536
+-- a value as a place keeps it: a value below the limit is keptIn as it is
+abbrev pub keptIn : Width → ℕ → ℕ
+keptIn Bits32 v = v
+keptIn Bits16 v = v % 65536
 
 -- the half at place p: the low half of number p, or the high half of number p - n
 unfoldable pub halfAt : List ℕ → ℕ → ℕ
@@ -59,4 +60,4 @@ overAt Bits16 p f d = overHalves p f d
 
 -- the numbers of a span of rows, sixteen to a row
 abbrev pub overRowsAt : Width → Span → (ℕ → ℕ) → List ℕ → List ℕ
-overRowsAt w s f d = overAt w (λ i. inSpan s (i / 16)) f d
+overRowsAt w s f d = overAt w (λ i. inSpan s (i / columnCount)) f d

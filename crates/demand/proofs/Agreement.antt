@@ -7,18 +7,19 @@ use native.Mathlib.Omega.{arith}
 use lib.ListN.{getD}
 use lib.Dec.{eqb}
 use borrow.Author.Tests.{eqb-false}
-use Rattle.cells.specs.declared.Span.{Span}
+use Rattle.cells.specs.State.{State}
+use Rattle.cells.specs.declared.layout.Span.{Span}
 use Rattle.cells.specs.declared.Width.{Width}
 use Rattle.cells.specs.declared.Width.the-variants.{Bits32}
-use Rattle.cells.specs.Cells.{inSpan, noSpan, cell, overSpan}
+use Rattle.cells.specs.Cells.{inSpan, overSpan}
 use Rattle.cells.specs.Places.{getAt}
 use Rattle.cells.proofs.Cells.{split, over-true, over-none, within-true, between-in, between-after}
 use Rattle.cells.proofs.Same.{Same, over-same, fewer, drop-same, number-same, numbers-over}
 use Rattle.cells.proofs.Tests.{each-of, below-of}
 use Rattle.word.specs.declared.ShiftB.{ShiftB}
 use Rattle.word.specs.declared.Scalar.{Scalar}
-use Rattle.word.specs.declared.Fields.{Fields}
-use Rattle.word.specs.declared.Fields.the-variants as fields
+use Rattle.word.specs.declared.Operands.{Operands}
+use Rattle.word.specs.declared.Operands.the-variants as operands
 use Rattle.control.specs.declared.Control.{Control}
 use Rattle.control.specs.Record.{widthOf}
 use Rattle.product.specs.declared.Product.{Product}
@@ -26,10 +27,10 @@ use Rattle.product.specs.Product.{rowsA, rowsB, rowsD, multiplied}
 use Rattle.product.proofs.Laws.{multiplied-agrees}
 use Rattle.rules.specs.declared.Reads.{Reads}
 use Rattle.rules.specs.declared.Unsets.{Unsets}
-use Rattle.rules.specs.Rows.{bankRow, register, span, filledA, filledB, shiftedA, shiftedB}
-use Rattle.rules.specs.Access.{noSets, noUnsets, scalarRight, fieldsRead, fieldsSet, fieldsUnset}
-use Rattle.step.specs.State.{State}
-use Rattle.step.specs.Effect.{productOf, rightward, leftward, shiftA, shiftB, scalarOf, operandB, scalarResult, scalar, fieldsEffect}
+use Rattle.rules.specs.Rows.{filledA, filledB, shiftedA, shiftedB}
+use Rattle.rules.specs.Access.{noSets, noUnsets, scalarB, readsOf, setsOf, unsetsOf}
+use Rattle.cells.specs.Layout.{noSpan, cell, bankRow, register, span}
+use Rattle.step.specs.Effect.{productOf, rightward, leftward, shiftA, shiftB, computed, operandB, scalarResult, scalar, effectOf}
 use Rattle.precheck.specs.Marks.{Marks, allSet, readsSet, instructionMarks}
 
 -- the mark of a place: its row's, or its own
@@ -108,13 +109,13 @@ record Read (m : Marks) (r : Reads) : Type 0 where
   a : allSet (m .srca) (r .a) ≡ true
   b : allSet (m .srcb) (r .b) ≡ true
   dst : allSet (m .dst) (r .dst) ≡ true
-  left : allSet (m .registers) (r .left) ≡ true
-  right : allSet (m .registers) (r .right) ≡ true
+  left : allSet (m .registers) (r .rega) ≡ true
+  right : allSet (m .registers) (r .regb) ≡ true
 
 all-read : (m : Marks) (r : Reads) → readsSet m r ≡ true → Read m r
 unfolding readsSet
 all-read m r h =
-    let e = each-of (allSet (m .srca) (r .a) ∷ allSet (m .srcb) (r .b) ∷ allSet (m .dst) (r .dst) ∷ allSet (m .registers) (r .left) ∷ allSet (m .registers) (r .right) ∷ []) h in
+    let e = each-of (allSet (m .srca) (r .a) ∷ allSet (m .srcb) (r .b) ∷ allSet (m .dst) (r .dst) ∷ allSet (m .registers) (r .rega) ∷ allSet (m .registers) (r .regb) ∷ []) h in
     record { a = e .0; b = e .1 .0; dst = e .1 .1 .0; left = e .1 .1 .1 .0; right = e .1 .1 .1 .1 .0 }
 
 -- ---- each instruction keeps the agreement
@@ -146,9 +147,9 @@ module _ (w : Width) (m : Marks) (d e : State) (s : Agree w m d e) where
       (g .same i (set-at (m .dst) (rowsD p) (i / 16) hd r))))
       (m .dst) (over-true (inSpan (rowsD p)) (m .dst)))
 
-  shift-a-same : (c : Control) (mode : ℕ) (t : ℕ) → Read m (fieldsRead c t (fields.ShiftA mode))
+  shift-a-same : (c : Control) (mode : ℕ) (t : ℕ) → Read m (readsOf c t (operands.ShiftA mode))
       → Same Bits32 byRow 2048 (overSpan (shiftedA c) true (m .srca)) (shiftA c mode (d .srca)) (shiftA c mode (e .srca))
-  unfolding fieldsRead shiftA shiftedA
+  unfolding readsOf shiftA shiftedA
   shift-a-same c mode t h =
       numbers-over byRow 2048 (m .srca) (d .srca) (e .srca) (s .srca) (inSpan (shiftedA c)) _ _
       (λ i q.
@@ -157,9 +158,9 @@ module _ (w : Width) (m : Marks) (d e : State) (s : Agree w m d e) where
       shifted-same 2048 (m .srca) (d .srca) (e .srca) (s .srca) (eqb mode 2) (i / 16 + c .last) (i % 16) (omega arith)
       (set-at (m .srca) (span first 16) (i / 16 + c .last) (h .a) (between-in first (first + 16) (i / 16 + c .last) (omega arith) (omega arith))))
 
-  shift-b-same : (c : Control) (t : ℕ) (x : ShiftB) → Read m (fieldsRead c t (fields.ShiftB x))
+  shift-b-same : (c : Control) (t : ℕ) (x : ShiftB) → Read m (readsOf c t (operands.ShiftB x))
       → Same Bits32 byRow 2048 (m .srcb) (shiftB c t x (d .srcb)) (shiftB c t x (e .srcb))
-  unfolding fieldsRead shiftB
+  unfolding readsOf shiftB
   shift-b-same c t x h =
       let r = shiftedB c t x in
       let rows = inSpan (span r 1) in
@@ -170,7 +171,7 @@ module _ (w : Width) (m : Marks) (d e : State) (s : Agree w m d e) where
       (i / 16) (i % 16) (omega arith) (set-at (m .srcb) (span r 1) (i / 16) (h .b) q)))
       (m .srcb) (over-true rows (m .srcb))
 
-  operand-same : (t : ℕ) (x : Scalar) → allSet (m .registers) (scalarRight t x) ≡ true → operandB t x (d .registers) ≡ operandB t x (e .registers)
+  operand-same : (t : ℕ) (x : Scalar) → allSet (m .registers) (scalarB t x) ≡ true → operandB t x (d .registers) ≡ operandB t x (e .registers)
   operand-same t x h = go (x .constant) h
     where
       go : (k : Bool) → allSet (m .registers) (cond k noSpan (span (register t (x .b)) 1)) ≡ true
@@ -178,25 +179,25 @@ module _ (w : Width) (m : Marks) (d e : State) (s : Agree w m d e) where
       go true h = refl
       go false h = number-same alone 192 (m .registers) (d .registers) (e .registers) (s .registers) (register t (x .b)) (one-set (m .registers) (register t (x .b)) h)
 
-  scalar-same : (c : Control) (t : ℕ) (x : Scalar) → Read m (fieldsRead c t (fields.Scalar x))
+  scalar-same : (c : Control) (t : ℕ) (x : Scalar) → Read m (readsOf c t (operands.Scalar x))
       → Same Bits32 alone 192 (overSpan (span (register t (x .result)) 1) true (m .registers)) (scalar t x (d .registers)) (scalar t x (e .registers))
-  unfolding fieldsRead scalar scalarResult
+  unfolding readsOf scalar scalarResult
   scalar-same c t x h =
       numbers-over alone 192 (m .registers) (d .registers) (e .registers) (s .registers) (inSpan (span (register t (x .result)) 1)) _ _
-      (λ i q. ap₂ (scalarOf (x .op) (x .mode)) (number-same alone 192 (m .registers) (d .registers) (e .registers) (s .registers) (register t (x .a)) (one-set (m .registers) (register t (x .a)) (h .left))) (operand-same t x (h .right)))
+      (λ i q. ap₂ (computed (x .op) (x .mode)) (number-same alone 192 (m .registers) (d .registers) (e .registers) (s .registers) (register t (x .a)) (one-set (m .registers) (register t (x .a)) (h .left))) (operand-same t x (h .right)))
 
   -- the fields of a word, all that they read being set, under a record of this width
-  pub word-agrees : (c : Control) (t : ℕ) (f : Fields) → widthOf (c .settings) ≡ w → readsSet m (fieldsRead c t f) ≡ true
-      → Agree w (instructionMarks m (fieldsSet c t f) (fieldsUnset c f)) (fieldsEffect c t f d) (fieldsEffect c t f e)
-  unfolding fieldsEffect fieldsRead fieldsSet fieldsUnset instructionMarks productOf
-  word-agrees c t (fields.Multiply x) q h =
-      let i = idle-agrees (fieldsUnset c (fields.Multiply x)) in
+  pub word-agrees : (c : Control) (t : ℕ) (f : Operands) → widthOf (c .settings) ≡ w → readsSet m (readsOf c t f) ≡ true
+      → Agree w (instructionMarks m (setsOf c t f) (unsetsOf c f)) (effectOf c t f d) (effectOf c t f e)
+  unfolding effectOf readsOf setsOf unsetsOf instructionMarks productOf
+  word-agrees c t (operands.Multiply x) q h =
+      let i = idle-agrees (unsetsOf c (operands.Multiply x)) in
       let r = all-read m _ h in
       record { srca = i .srca; srcb = i .srcb; dst = multiply-same (productOf c t x) q (r .a) (r .b) (r .dst); registers = i .registers }
-  word-agrees c t (fields.Legacy l) q h = idle-agrees (fieldsUnset c (fields.Legacy l))
-  word-agrees c t (fields.SetCounters x) q h = idle-agrees (fieldsUnset c (fields.SetCounters x))
-  word-agrees c t (fields.AddCounters x) q h = idle-agrees noUnsets
-  word-agrees c t (fields.ZeroSrc z) q h =
+  word-agrees c t (operands.Legacy l) q h = idle-agrees (unsetsOf c (operands.Legacy l))
+  word-agrees c t (operands.SetCounters x) q h = idle-agrees (unsetsOf c (operands.SetCounters x))
+  word-agrees c t (operands.AddCounters x) q h = idle-agrees noUnsets
+  word-agrees c t (operands.ZeroSrc z) q h =
       let i = idle-agrees noUnsets in
       record {
         srca = drop-same Bits32 byRow 2048 _ _ _ (numbers-over byRow 2048 (m .srca) (d .srca) (e .srca) (s .srca) (inSpan (filledA c z)) _ _ (λ i q. refl)) (inSpan noSpan);
@@ -204,7 +205,7 @@ module _ (w : Width) (m : Marks) (d e : State) (s : Agree w m d e) where
         dst = i .dst;
         registers = i .registers;
       }
-  word-agrees c t (fields.ShiftA mode) q h =
+  word-agrees c t (operands.ShiftA mode) q h =
       let i = idle-agrees noUnsets in
       record {
         srca = drop-same Bits32 byRow 2048 _ _ _ (shift-a-same c mode t (all-read m _ h)) (inSpan noSpan);
@@ -212,7 +213,7 @@ module _ (w : Width) (m : Marks) (d e : State) (s : Agree w m d e) where
         dst = i .dst;
         registers = i .registers;
       }
-  word-agrees c t (fields.ShiftB x) q h =
+  word-agrees c t (operands.ShiftB x) q h =
       let i = idle-agrees noUnsets in
       record {
         srca = i .srca;
@@ -220,7 +221,7 @@ module _ (w : Width) (m : Marks) (d e : State) (s : Agree w m d e) where
         dst = i .dst;
         registers = i .registers;
       }
-  word-agrees c t fields.NoEffect q h = idle-agrees noUnsets
-  word-agrees c t (fields.Scalar x) q h =
+  word-agrees c t operands.NoEffect q h = idle-agrees noUnsets
+  word-agrees c t (operands.Scalar x) q h =
       let i = idle-agrees noUnsets in
       record { srca = i .srca; srcb = i .srcb; dst = i .dst; registers = scalar-same c t x (all-read m _ h) }

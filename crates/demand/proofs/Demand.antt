@@ -17,8 +17,8 @@ use Rattle.word.specs.declared.Refusal.{Refusal}
 use Rattle.word.specs.declared.Refusal.the-variants as refusal
 use Rattle.control.specs.Record.{start}
 use Rattle.control.proofs.Kept.{start-kept}
-use Rattle.step.specs.State.{State, sized}
-use Rattle.step.proofs.Sizes.{sizes}
+use Rattle.cells.specs.State.{State, sized}
+use Rattle.cells.proofs.Sizes.{sizes}
 use Rattle.job.specs.Fields.{jobWidth, fieldsFrom}
 use Rattle.job.specs.Shape.{shapeOf}
 use Rattle.job.specs.Values.{beforeWrong}

@@ -5,12 +5,13 @@ use mathlib.Core.List.{List, [], _∷_}
 use Prim.Native.Nat.{ℕ}
 use borrow.Author.Tests.{not-false}
 use lib.Dec.{ltb}
+use Rattle.cells.specs.Layout.{oneRegister}
 use Rattle.cells.specs.declared.Width.{Width}
 use Rattle.cells.specs.declared.Width.the-variants.{Bits32}
 use Rattle.cells.specs.Cells.{inSpan}
 use Rattle.cells.proofs.Same.{written, numbers-over}
-use Rattle.datum.specs.declared.File.the-variants.{A, B}
-use Rattle.word.specs.Word.{wordFields, readWord}
+use Rattle.cells.specs.declared.layout.File.the-variants.{A, B}
+use Rattle.word.specs.Word.{wordOperands, readWord}
 use Rattle.word.specs.declared.Read.{Read}
 use Rattle.word.specs.declared.Read.the-variants as read
 use Rattle.word.specs.declared.Refusal.the-variants.{UnsetRead}
@@ -20,18 +21,18 @@ use Rattle.control.specs.Range.{inRange}
 use Rattle.control.specs.Record.{widthOf}
 use Rattle.rules.specs.Rules.{_when_, rules, lowest, judgement}
 use Rattle.rules.specs.After.{actingOf, acting}
-use Rattle.rules.specs.Access.{fieldsRead, wordSets, wordUnsets}
+use Rattle.rules.specs.Access.{readsOf, wordSets, wordUnsets}
 use Rattle.rules.specs.declared.Verdict.the-variants.{Done}
 use Rattle.rules.proofs.Reading.{judged-refused}
-use Rattle.step.specs.State.{State, sized}
-use Rattle.step.specs.Effect.{fieldsEffect, stateAfter}
+use Rattle.cells.specs.State.{State, sized}
+use Rattle.step.specs.Effect.{effectOf, stateAfter}
 use Rattle.step.specs.Step.{verdictOf, stateOf}
-use Rattle.step.proofs.Sizes.{sized-of}
+use Rattle.cells.proofs.Sizes.{sized-of}
 use Rattle.job.proofs.Says.{Says}
 use Rattle.job.specs.declared.Kind.{Kind}
 use Rattle.job.specs.declared.Kind.the-variants as kind
-use Rattle.precheck.specs.Marks.{Marks, readsSet, setSrc, setDst, setRegister}
-use Rattle.precheck.specs.Fields.{loadedRows, oneRegister, unsetRead, fieldRules, fieldMarks}
+use Rattle.precheck.specs.Marks.{Marks, readsSet, markSrc, markDst, markRegister}
+use Rattle.precheck.specs.Fields.{loadedRows, unsetRead, fieldRules, fieldMarks}
 use Rattle.run.specs.Perform.{loaded, performed, stepVerdict}
 use Rattle.demand.proofs.Rules.{never, parts-done, alone-done}
 use Rattle.demand.specs.Breaks.{isIssue}
@@ -40,12 +41,12 @@ use Rattle.demand.proofs.Agreement.{Agree, byRow, alone, word-agrees}
 -- ---- an instruction
 
 -- a word that breaks no rule was read
-acts : (c : Control) (t w : ℕ) → lowest (rules c t w) ≡ Done → acting w ≡ wordFields w
+acts : (c : Control) (t w : ℕ) → lowest (rules c t w) ≡ Done → acting w ≡ wordOperands w
 unfolding acting judgement
 acts c t w h = go (readWord w) refl
   where
-    go : (r : Read) → readWord w ≡ r → actingOf r ≡ wordFields w
-    go (read.Fields f) e = sym (was-read w f e .fields)
+    go : (r : Read) → readWord w ≡ r → actingOf r ≡ wordOperands w
+    go (read.Operands f) e = sym (was-read w f e .fields)
     go (read.Refused r) e = absurd (never (sym (judged-refused c t w r e) ∙ h))
 
 module _ (c : Control) (m : Marks) (t w : ℕ) (h : lowest (fieldRules c m (kind.Issue t w)) ≡ Done) where
@@ -54,7 +55,7 @@ module _ (c : Control) (m : Marks) (t w : ℕ) (h : lowest (fieldRules c m (kind
   unfolding fieldRules
   judged-done = parts-done (rules c t w) ((UnsetRead when unsetRead c m t w) ∷ []) h .0
 
-  reads-set : readsSet m (fieldsRead c t (acting w)) ≡ true
+  reads-set : readsSet m (readsOf c t (acting w)) ≡ true
   unfolding fieldRules
   reads-set =
       rw (acts c t w judged-done)
@@ -65,7 +66,7 @@ module _ (c : Control) (m : Marks) (t w : ℕ) (h : lowest (fieldRules c m (kind
     unfolding verdictOf judgement
     verdict-done s size = simp (size, range, thread) judged-done
 
-    state-is : (s : State) → sized s ≡ true → stateOf c t w s ≡ fieldsEffect c t (acting w) s
+    state-is : (s : State) → sized s ≡ true → stateOf c t w s ≡ effectOf c t (acting w) s
     unfolding stateOf stateAfter
     state-is s size = rw (verdict-done s size)
 
@@ -96,7 +97,7 @@ module _ (c : Control) (m : Marks) (range : inRange c ≡ true) (w : Width) (d e
   -- and the states agree after it, where the record has the width too
   pub field-agrees : (job : List ℕ) (place : ℕ) (k : Kind) → Says w tag p k → (isIssue k ≡ true → widthOf (c .settings) ≡ w) → lowest (fieldRules c m k) ≡ Done
       → Agree w (fieldMarks c m k) (performed job c place k d) (performed job c place k e)
-  unfolding fieldMarks performed loaded setSrc setDst setRegister wordSets wordUnsets
+  unfolding fieldMarks performed loaded markSrc markDst markRegister wordSets wordUnsets
   field-agrees job place kind.Settings i q h = s
   field-agrees job place (kind.LoadSrc A rows) i q h =
       record { srca = written Bits32 byRow 2048 (m .srca) (d .srca) (e .srca) (s .srca) (loadedRows c A rows) _; srcb = s .srcb; dst = s .dst; registers = s .registers }

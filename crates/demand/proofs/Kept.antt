@@ -6,13 +6,13 @@ use Prim.Native.Nat.{ℕ}
 use lib.ListN.{getD}
 use Rattle.cells.specs.Cells.{inSpan}
 use Rattle.cells.proofs.Cells.{over-true}
-use Rattle.datum.specs.declared.File.the-variants.{A, B}
+use Rattle.cells.specs.declared.layout.File.the-variants.{A, B}
 use Rattle.control.specs.declared.Control.{Control}
 use Rattle.rules.specs.Access.{wordSets}
 use Rattle.job.specs.declared.Kind.{Kind}
 use Rattle.job.specs.declared.Kind.the-variants as kind
 use Rattle.precheck.specs.Marks.{Marks}
-use Rattle.precheck.specs.Marks.{setSrc, setDst, setRegister, instructionMarks}
+use Rattle.precheck.specs.Marks.{markSrc, markDst, markRegister, instructionMarks}
 use Rattle.precheck.specs.Fields.{fieldMarks}
 
 -- each mark of m stands in n
@@ -30,7 +30,7 @@ pub stays-on : (l m n : Marks) → Stays l m → Stays m n → Stays l n
 stays-on l m n p q = record { dst = λ r t. q .dst r (p .dst r t); registers = λ r t. q .registers r (p .registers r t) }
 
 pub marks-stay : (c : Control) (m : Marks) (k : Kind) → Stays m (fieldMarks c m k)
-unfolding fieldMarks setSrc setDst setRegister instructionMarks
+unfolding fieldMarks markSrc markDst markRegister instructionMarks
 marks-stay c m kind.Settings = stays m
 marks-stay c m (kind.LoadSrc A rows) = record { dst = λ r t. t; registers = λ r t. t }
 marks-stay c m (kind.LoadSrc B rows) = record { dst = λ r t. t; registers = λ r t. t }

@@ -11,15 +11,15 @@ use Rattle.cells.proofs.Cells.{between-in}
 use Rattle.cells.proofs.Same.{Same, number-same}
 use Rattle.word.specs.declared.Refusal.the-variants.{UnsetRead}
 use Rattle.control.specs.declared.Control.{Control}
-use Rattle.rules.specs.Rows.{register}
+use Rattle.cells.specs.Layout.{register, oneRegister}
 use Rattle.rules.specs.Rules.{lowest}
 use Rattle.rules.specs.declared.Verdict.the-variants.{Done}
-use Rattle.step.specs.State.{State}
+use Rattle.cells.specs.State.{State}
 use Rattle.job.specs.declared.Kind.{Kind}
 use Rattle.job.specs.declared.Kind.the-variants as kind
 use Rattle.job.proofs.Says.{Says}
 use Rattle.precheck.specs.Marks.{Marks, allSet}
-use Rattle.precheck.specs.Fields.{oneRegister, fieldRules}
+use Rattle.precheck.specs.Fields.{fieldRules}
 use Rattle.lines.specs.Lines.{row, value, columns, rowLines, fieldLines}
 use Rattle.demand.proofs.Rules.{alone-done}
 use Rattle.demand.proofs.Kept.{Stays}

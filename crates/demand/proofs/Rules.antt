@@ -7,11 +7,11 @@ use native.Mathlib.Omega.{arith}
 use borrow.Author.Tests.{leb-true, ne-eqb, eq-eqb}
 use lib.Dec.{leb, eqb}
 use Rattle.cells.proofs.Cells.{split, both}
-use Rattle.datum.specs.declared.File.the-variants.{A}
+use Rattle.cells.specs.declared.layout.File.the-variants.{A}
 use Rattle.word.specs.Refusal.{numberOf}
 use Rattle.word.specs.declared.Refusal.{Refusal}
 use Rattle.control.specs.declared.Control.{Control}
-use Rattle.rules.specs.Rules.{Broken, _when_, rules, lowest, fieldRules as wordRules}
+use Rattle.rules.specs.Rules.{Judged, _when_, rules, lowest, operandRules as wordRules}
 use Rattle.rules.specs.declared.Verdict.the-variants.{Done, Refused}
 use Rattle.job.specs.declared.Kind.{Kind}
 use Rattle.job.specs.declared.Kind.the-variants as kind
@@ -24,19 +24,19 @@ never e = let z : _≡_ {A = ℕ} 0 1 = cc in omega arith
 
 -- ---- no rule is broken
 
-pub none-broken : (bs : List Broken) → lowest bs ≡ Done → (n : ℕ) → brokenNumber n bs ≡ false
+pub none-broken : (bs : List Judged) → lowest bs ≡ Done → (n : ℕ) → brokenNumber n bs ≡ false
 unfolding lowest brokenNumber
 none-broken [] e n = refl
 none-broken (b ∷ bs) e n =
-    split (b .holds) (λ h. absurd (never (rw h at e)))
+    split (b .broken) (λ h. absurd (never (rw h at e)))
     (λ h. rw (h, and-false (eqb (numberOf (b .rule)) n)) (none-broken bs (rw h at e) n))
 
 -- then none of either part is
-pub parts-done : (xs bs : List Broken) → lowest (xs ++ bs) ≡ Done → (lowest xs ≡ Done) × (lowest bs ≡ Done)
+pub parts-done : (xs bs : List Judged) → lowest (xs ++ bs) ≡ Done → (lowest xs ≡ Done) × (lowest bs ≡ Done)
 unfolding lowest
 parts-done [] bs e = (refl, e)
 parts-done (a ∷ xs) bs e =
-    split (a .holds) (λ h. absurd (never (rw h at e)))
+    split (a .broken) (λ h. absurd (never (rw h at e)))
     (λ h. let r = parts-done xs bs (rw h at e) in (rw h (r .0), r .1))
 
 -- and a rule that stands alone does not hold
@@ -48,22 +48,22 @@ alone-done r false e = refl
 -- ---- the lowest that is
 
 -- the numbers rise, from k on, and stay below 9
-unfoldable pub rising : ℕ → List Broken → Bool
+unfoldable pub rising : ℕ → List Judged → Bool
 rising k [] = leb k 9
 rising k (b ∷ bs) = leb k (numberOf (b .rule)) && rising (suc (numberOf (b .rule))) bs
 
 -- the head of such a list, and its rest
-rise : (k : ℕ) (b : Broken) (bs : List Broken) → rising k (b ∷ bs) ≡ true → (k ≤ numberOf (b .rule)) × (rising (suc (numberOf (b .rule))) bs ≡ true)
+rise : (k : ℕ) (b : Judged) (bs : List Judged) → rising k (b ∷ bs) ≡ true → (k ≤ numberOf (b .rule)) × (rising (suc (numberOf (b .rule))) bs ≡ true)
 unfolding rising
 rise k b bs h = let r = both (leb k (numberOf (b .rule))) (rising (suc (numberOf (b .rule))) bs) h in (leb-true _ _ (r .0), r .1)
 
-rising-most : (k : ℕ) (bs : List Broken) → rising k bs ≡ true → k ≤ 9
+rising-most : (k : ℕ) (bs : List Judged) → rising k bs ≡ true → k ≤ 9
 unfolding rising
 rising-most k [] h = leb-true k 9 h
 rising-most k (b ∷ bs) h = let r = rise k b bs h in omega (arith, rising-most _ bs (r .1))
 
 -- none below the first
-none-below : (k : ℕ) (bs : List Broken) → rising k bs ≡ true → (j : ℕ) → j < k → brokenNumber j bs ≡ false
+none-below : (k : ℕ) (bs : List Judged) → rising k bs ≡ true → (j : ℕ) → j < k → brokenNumber j bs ≡ false
 unfolding brokenNumber
 none-below k [] h j l = refl
 none-below k (b ∷ bs) h j l =
@@ -71,17 +71,17 @@ none-below k (b ∷ bs) h j l =
     rw (ne-eqb (numberOf (b .rule)) j (λ q. omega arith)) (none-below _ bs (r .1) j (omega arith))
 
 -- r is the lowest of a list whose numbers rise
-pub record Lowest (bs : List Broken) (r : Refusal) : Type 0 where
+pub record Lowest (bs : List Judged) (r : Refusal) : Type 0 where
   pub broken : brokenNumber (numberOf r) bs ≡ true
   pub lower : (j : ℕ) → j < numberOf r → brokenNumber j bs ≡ false
   pub most : numberOf r ≤ 8
 
-pub lowest-is : (k : ℕ) (bs : List Broken) (r : Refusal) → rising k bs ≡ true → lowest bs ≡ Refused r → Lowest bs r
+pub lowest-is : (k : ℕ) (bs : List Judged) (r : Refusal) → rising k bs ≡ true → lowest bs ≡ Refused r → Lowest bs r
 unfolding lowest brokenNumber
 lowest-is k [] r h e = absurd (never (sym e))
 lowest-is k (b ∷ bs) r h e =
     let up = rise k b bs h in
-    split (b .holds)
+    split (b .broken)
     (λ t.
     let q : Refused (b .rule) ≡ Refused r = rw t at e in
     let s : b .rule ≡ r = cc in

@@ -13,25 +13,25 @@ use Rattle.word.specs.declared.Refusal.{Refusal}
 use Rattle.word.specs.declared.Refusal.the-variants.{StateLength, Shape}
 use Rattle.control.specs.declared.Control.{Control}
 use Rattle.control.specs.Range.{inRange}
-use Rattle.rules.specs.Rules.{Broken, rules, fieldRules, lowest, judgement}
+use Rattle.rules.specs.Rules.{Judged, rules, operandRules, lowest, judgement}
 use Rattle.rules.specs.declared.Verdict.the-variants.{Done, Refused}
-use Rattle.step.specs.State.{State, sized}
+use Rattle.cells.specs.State.{State, sized}
 use Rattle.step.specs.Step.{verdictOf, steppedOf, stateOf}
 use Rattle.demand.specs.Breaks.{brokenNumber}
 use Rattle.demand.specs.Demand.{StepDemand1}
 use Rattle.demand.proofs.Rules.{never, none-broken, rising, Lowest, lowest-is}
 
 -- no rule of a list has a number over n
-abbrev most : ℕ → List Broken → Bool
+abbrev most : ℕ → List Judged → Bool
 most n [] = true
 most n (b ∷ bs) = leb (numberOf (b .rule)) n && most n bs
 
-lowest-most : (n : ℕ) (bs : List Broken) (r : Refusal) → most n bs ≡ true → lowest bs ≡ Refused r → numberOf r ≤ n
+lowest-most : (n : ℕ) (bs : List Judged) (r : Refusal) → most n bs ≡ true → lowest bs ≡ Refused r → numberOf r ≤ n
 unfolding lowest
 lowest-most n [] r h e = absurd (never (sym e))
 lowest-most n (b ∷ bs) r h e =
     let p = both (leb (numberOf (b .rule)) n) (most n bs) h in
-    split (b .holds)
+    split (b .broken)
     (λ t.
     let q : Refused (b .rule) ≡ Refused r = rw t at e in
     let s : b .rule ≡ r = cc in
@@ -39,7 +39,7 @@ lowest-most n (b ∷ bs) r h e =
     (λ t. lowest-most n bs r (p .1) (rw t at e))
 
 judged-most : (c : Control) (t w : ℕ) (r : Refusal) → judgement c t w ≡ Refused r → numberOf r ≤ 7
-unfolding judgement rules fieldRules
+unfolding judgement rules operandRules
 judged-most c t w r e = lowest-most 7 (rules c t w) r refl e
 
 module _ (c : Control) (t w : ℕ) (s : State) where
@@ -59,7 +59,7 @@ module _ (c : Control) (t w : ℕ) (s : State) where
 
   -- the rules stand in the order of their numbers
   pub judged : (r : Refusal) → judgement c t w ≡ Refused r → Lowest (rules c t w) r
-  unfolding judgement rules fieldRules rising
+  unfolding judgement rules operandRules rising
   judged r e = lowest-is 0 (rules c t w) r refl e
 
   unjudged : judgement c t w ≡ Done → (j : ℕ) → brokenNumber j (rules c t w) ≡ false

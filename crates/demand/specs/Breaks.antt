@@ -7,7 +7,7 @@ use lib.Dec.{eqb}
 use lib.ListN.{getD}
 use Rattle.word.specs.Refusal.{numberOf}
 use Rattle.control.specs.declared.Control.{Control}
-use Rattle.rules.specs.Rules.{Broken}
+use Rattle.rules.specs.Rules.{Judged}
 use Rattle.job.specs.declared.Kind.{Kind}
 use Rattle.job.specs.declared.Kind.the-variants as kind
 use Rattle.job.specs.declared.Field.{Field}
@@ -15,9 +15,9 @@ use Rattle.precheck.specs.Marks.{Marks}
 use Rattle.precheck.specs.Fields.{fieldRules, fieldControl, fieldMarks}
 
 -- the rule of number n is among those broken
-unfoldable pub brokenNumber : ℕ → List Broken → Bool
+unfoldable pub brokenNumber : ℕ → List Judged → Bool
 brokenNumber n [] = false
-brokenNumber n (b ∷ bs) = (eqb (numberOf (b .rule)) n && b .holds) || brokenNumber n bs
+brokenNumber n (b ∷ bs) = (eqb (numberOf (b .rule)) n && b .broken) || brokenNumber n bs
 
 -- field k breaks the rule of number n, judged on the record and the marks that the fields before it leave
 unfoldable pub breaks : List ℕ → Control → Marks → List Field → ℕ → ℕ → Bool

@@ -7,9 +7,9 @@ use mathlib.Core.Logic.{_⊎_, _≢_}
 use Prim.Native.Nat.{ℕ, _≤_, _<_}
 use Rattle.cells.specs.declared.Width.the-variants.{Bits16}
 use Rattle.word.specs.Refusal.{numberOf}
-use Rattle.word.specs.Word.{wordFields}
+use Rattle.word.specs.Word.{wordOperands}
 use Rattle.word.specs.declared.Multiply.{Multiply}
-use Rattle.word.specs.declared.Fields.the-variants as fields
+use Rattle.word.specs.declared.Operands.the-variants as operands
 use Rattle.word.specs.declared.Refusal.{Refusal}
 use Rattle.word.specs.declared.Refusal.the-variants.{Shape, StateLength}
 use Rattle.control.specs.declared.Control.{Control}
@@ -17,7 +17,7 @@ use Rattle.control.specs.declared.Settings.{Settings}
 use Rattle.control.specs.Record.{start, widthOf}
 use Rattle.rules.specs.Rules.{rules, judgement}
 use Rattle.rules.specs.declared.Verdict.the-variants as verdict
-use Rattle.step.specs.State.{State, sized}
+use Rattle.cells.specs.State.{State, sized}
 use Rattle.step.specs.Step.{verdictOf, steppedOf, stateOf}
 use Rattle.job.specs.Fields.{payloadAt, jobWidth, fieldsFrom}
 use Rattle.job.specs.Settings.{settled}
@@ -95,7 +95,7 @@ pub record InFp32 (s : Settings) : Type 0 where
 -- a multiply under settings of neither
 pub record Unmodelled (s : Settings) (w : ℕ) : Type 0 where
   pub multiply : Multiply
-  pub word : wordFields w ≡ fields.Multiply multiply
+  pub word : wordOperands w ≡ operands.Multiply multiply
   pub not-fp32 : InFp32 s → ⊥
   pub not-bf16 : InBf16 s → ⊥
 

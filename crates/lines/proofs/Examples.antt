@@ -6,9 +6,9 @@ use Prim.Native.Nat.{ℕ, _+_}
 use lib.ListN.{replicate, set}
 use Rattle.cells.specs.declared.Width.the-variants.{Bits32, Bits16}
 use Rattle.cells.specs.Places.{halfAt, getAt}
-use Rattle.step.specs.State.{state}
+use Rattle.cells.specs.State.{state}
 use Rattle.lines.specs.Lines.{value, columns, fieldLines, linesFrom, linesOf}
-use Rattle.lines.specs.Text.{pushed, wrote, blank, made, decimalUpTo, decimal, hexDigit, hex, values, textOf, lineOf, finishedText, refusedText}
+use Rattle.lines.specs.Text.{pushed, wrote, emptyText, made, decimalUpTo, decimal, hexDigit, hex, values, textOf, lineOf, finishedText, refusedText}
 use Rattle.job.specs.Fields.{jobWidth, fieldAt, fieldsUpTo, fieldsFrom}
 use Rattle.job.specs.Kinds.{settings, loadRegister, issue, outputRows, outputRegister, kindOf}
 use Rattle.job.specs.Settings.{slotOf, threadRight, settingsRight}
@@ -56,7 +56,7 @@ row-512 = refl
 
 -- a text of bytes: the first ones are those that were written
 text-of-it : made (finishedText 1) .len ≡ 11
-unfolding finishedText decimal decimalUpTo blank wrote pushed
+unfolding finishedText decimal decimalUpTo emptyText wrote pushed
 text-of-it = refl
 
 -- output rows 7 and 8 at 0, output register 0/3 at 6: three lines, then the end

@@ -13,7 +13,7 @@ use Rattle.cells.specs.declared.Width.the-variants.{Bits32, Bits16}
 use Rattle.cells.specs.Places.{digitsOf, getAt}
 use Rattle.cells.proofs.Cells.{split}
 use Rattle.lines.specs.Lines.{row, value, columns}
-use Rattle.lines.specs.Text.{blank, pushed, wrote, made, Holds, decimalUpTo, decimal, hexDigit, hex, values, wordRow, wordRegister, textOf}
+use Rattle.lines.specs.Text.{emptyText, pushed, wrote, made, Holds, decimalUpTo, decimal, hexDigit, hex, values, wordRow, wordRegister, textOf}
 use Rattle.lines.specs.declared.Text.{Text}
 
 -- ---- one list after another
@@ -119,9 +119,9 @@ kept t (b ∷ l) q h =
     rw (room t b l (omega arith)) (i .0 ∙ n, i .1 ∙ e)
 
 pub made-holds : (l : List ℕ) → length l ≤ 160 → Holds (made l) l
-unfolding blank
+unfolding emptyText
 made-holds l h =
-    let k = kept blank l refl (omega arith) in
+    let k = kept emptyText l refl (omega arith) in
     let e : made l .len ≡ length l = k .0 ∙ omega arith in
     record { short = omega arith; size = e; first = k .1 }
 
@@ -170,21 +170,21 @@ fits-20 : (n : ℕ) → n < 2 ^ 64 → length (decimal n) ≤ 20
 fits-20 n h = decimal-short 19 n (omega arith)
 
 module _ (r : Text) (w : List ℕ) (n : ℕ) (fits : n < 2 ^ 64) where
-  pub number-text : length w ≤ 20 → r ≡ pushed (wrote (wrote blank w) (decimal n)) 10
+  pub number-text : length w ≤ 20 → r ≡ pushed (wrote (wrote emptyText w) (decimal n)) 10
       → (r ≡ made (w ++ decimal n ++ 10 ∷ [])) × Holds r (w ++ decimal n ++ 10 ∷ [])
   number-text h e =
       whole r _ (simp length-append (omega (arith, fits-20 n fits)))
       (e ∙ simp (wrote-one, wrote-append, append-assoc))
 
   pub numbers-text : (v : List ℕ) (p : ℕ) → p < 2 ^ 64 → length w ≤ 20 → length v ≤ 20
-      → r ≡ pushed (wrote (wrote (wrote (wrote blank w) (decimal n)) v) (decimal p)) 10
+      → r ≡ pushed (wrote (wrote (wrote (wrote emptyText w) (decimal n)) v) (decimal p)) 10
       → (r ≡ made (w ++ decimal n ++ v ++ decimal p ++ 10 ∷ [])) × Holds r (w ++ decimal n ++ v ++ decimal p ++ 10 ∷ [])
   numbers-text v p f h k e =
       whole r _ (simp length-append (omega (arith, fits-20 n fits, fits-20 p f)))
       (e ∙ simp (wrote-one, wrote-append, append-assoc))
 
 pub row-text : (r : Text) (w : Width) (l : List ℕ) (i : ℕ) → i < 2 ^ 32
-    → r ≡ pushed (wrote (wrote (wrote blank wordRow) (decimal i)) (values (digitsOf w) (columns w l i 0 16))) 10
+    → r ≡ pushed (wrote (wrote (wrote emptyText wordRow) (decimal i)) (values (digitsOf w) (columns w l i 0 16))) 10
     → (r ≡ made (textOf (row w i (columns w l i 0 16)))) × Holds r (textOf (row w i (columns w l i 0 16)))
 unfolding textOf
 row-text r w l i f e =
@@ -194,7 +194,7 @@ row-text r w l i f e =
     (e ∙ simp (wrote-one, wrote-append, append-assoc))
 
 pub value-text : (r : Text) (t i v : ℕ) → t < 2 ^ 64 → i < 2 ^ 64
-    → r ≡ pushed (wrote (wrote (pushed (wrote (wrote blank wordRegister) (decimal t)) 32) (decimal i)) (values 8 (v ∷ []))) 10
+    → r ≡ pushed (wrote (wrote (pushed (wrote (wrote emptyText wordRegister) (decimal t)) 32) (decimal i)) (values 8 (v ∷ []))) 10
     → (r ≡ made (textOf (value t i v))) × Holds r (textOf (value t i v))
 unfolding textOf
 value-text r t i v f g e =

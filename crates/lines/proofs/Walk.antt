@@ -17,7 +17,7 @@ use Rattle.job.specs.declared.Kind.{Kind}
 use Rattle.job.specs.declared.Kind.the-variants.{Settings, LoadSrc, LoadDst, LoadRegister, HandOver, Issue, OutputRows, OutputRegister, ZeroRows, Wrong}
 use Rattle.job.specs.declared.Field.{Field}
 use Rattle.job.proofs.Walk.{grows, place-at, fields-end, fields-step}
-use Rattle.step.specs.State.{State}
+use Rattle.cells.specs.State.{State}
 use Rattle.lines.specs.Lines.{Line, row, columns, rowLines, fieldLines, linesFrom, linesOf}
 use Rattle.lines.specs.Text.{lineOf}
 use Rattle.lines.specs.Cursor.{startCursor, linesAt, lineCount, whatAt, nextFrom, nextOf, readOn, walk}

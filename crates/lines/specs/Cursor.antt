@@ -9,7 +9,7 @@ use Rattle.job.specs.Fields.{fieldsFrom}
 use Rattle.job.specs.declared.Kind.{Kind}
 use Rattle.job.specs.declared.Kind.the-variants as kind
 use Rattle.job.specs.declared.Field.{Field}
-use Rattle.step.specs.State.{State}
+use Rattle.cells.specs.State.{State}
 use Rattle.lines.specs.Lines.{Line, linesFrom}
 use Rattle.lines.specs.Text.{lineOf}
 use Rattle.lines.specs.declared.Cursor.{Cursor}

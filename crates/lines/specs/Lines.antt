@@ -4,10 +4,9 @@ use mathlib.Core.List.{List, [], _∷_, _++_}
 use Prim.Native.Nat.{ℕ, zero, suc, _+_}
 use lib.ListN.{getD}
 use Rattle.cells.specs.declared.Width.{Width}
-use Rattle.cells.specs.Cells.{cell}
+use Rattle.cells.specs.Layout.{cell, register}
 use Rattle.cells.specs.Places.{getAt}
-use Rattle.rules.specs.Rows.{register}
-use Rattle.step.specs.State.{State}
+use Rattle.cells.specs.State.{State}
 use Rattle.job.specs.Fields.{fieldsFrom}
 use Rattle.job.specs.declared.Kind.{Kind}
 use Rattle.job.specs.declared.Kind.the-variants as kind

@@ -8,7 +8,7 @@ use Prim.Native.Nat.{ℕ, zero, suc, _+_, _/_, _%_, _≤_}
 use lib.Dec.{ltb}
 use lib.ListN.{length, getD, set, take, replicate}
 use Rattle.cells.specs.Places.{digitsOf}
-use Rattle.rules.specs.Rows.{register}
+use Rattle.cells.specs.Layout.{register}
 use Rattle.lines.specs.Lines.{Line, row, value, columns}
 use Rattle.lines.specs.declared.Text.{Text}
 use Rattle.lines.specs.declared.What.{What}
@@ -16,8 +16,8 @@ use Rattle.lines.specs.declared.What.the-variants as what
 
 -- ---- a text and what is written to it
 
-unfoldable pub blank : Text
-blank = record { bytes = replicate 160 0; len = 0 }
+unfoldable pub emptyText : Text
+emptyText = record { bytes = replicate 160 0; len = 0 }
 
 -- a full text stays as it is
 unfoldable pub pushed : Text → ℕ → Text
@@ -29,7 +29,7 @@ wrote t (b ∷ bs) = wrote (pushed t b) bs
 
 -- the text of a list of bytes
 abbrev pub made : List ℕ → Text
-made l = wrote blank l
+made l = wrote emptyText l
 
 -- the first bytes of a text are this list, all of it
 pub record Holds (t : Text) (l : List ℕ) : Type 0 where

@@ -11,7 +11,7 @@ use write::push_word;
 ghost use mathlib.Core.Path.{_≡_};
 ghost use Prim.Native.Nat.{ℕ, _+_, _<_};
 ghost use Rattle.job.specs.Range.{InRange};
-ghost use Rattle.lines.specs.Text.{blank, made, Holds, textOf, lineOf, finishedText, refusedText, passedText};
+ghost use Rattle.lines.specs.Text.{emptyText, made, Holds, textOf, lineOf, finishedText, refusedText, passedText};
 ghost use Rattle.lines.specs.Cursor.{startCursor, lineCount, whatAt, nextOf};
 
 // The first `len` bytes count.
@@ -125,7 +125,7 @@ pub fn next(job: &[u8], from: Cursor) -> Found
 // ---- texts
 
 fn empty() -> Text
-    ensures { λ r. ⌜ r ≡ blank ⌝ }
+    ensures { λ r. ⌜ r ≡ emptyText ⌝ }
 {
     Text {
         bytes: [0; 160],

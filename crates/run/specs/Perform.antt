@@ -2,18 +2,18 @@
 -- one that `fieldControl` gives, so the record after a field is taken from there for every kind. Definitions only.
 use mathlib.Core.List.{List}
 use Prim.Native.Nat.{ℕ, _-_, _*_}
-use Rattle.cells.specs.declared.Span.{Span}
+use Rattle.cells.specs.declared.layout.Span.{Span}
 use Rattle.cells.specs.declared.Width.{Width}
 use Rattle.cells.specs.declared.Width.the-variants.{Bits32}
 use Rattle.cells.specs.Cells.{over, within}
 use Rattle.cells.specs.Places.{overRowsAt}
-use Rattle.datum.specs.declared.File.{File}
-use Rattle.datum.specs.declared.File.the-variants.{A, B}
+use Rattle.cells.specs.declared.layout.File.{File}
+use Rattle.cells.specs.declared.layout.File.the-variants.{A, B}
 use Rattle.control.specs.declared.Control.{Control}
-use Rattle.rules.specs.Rows.{register}
+use Rattle.cells.specs.Layout.{register, rowStart}
 use Rattle.rules.specs.declared.Verdict.{Verdict}
 use Rattle.rules.specs.declared.Verdict.the-variants.{Done}
-use Rattle.step.specs.State.{State, withSrcA, withSrcB, withDst, withRegisters}
+use Rattle.cells.specs.State.{State, withDst, withRegisters, srcFile, withSrcFile}
 use Rattle.step.specs.Step.{verdictOf, stateOf}
 use Rattle.job.specs.Values.{rowValue, registerValue}
 use Rattle.job.specs.declared.Kind.{Kind}
@@ -26,20 +26,12 @@ valueFrom job place lo = λ p. rowValue job place (p - lo)
 
 -- the rows of a load, from the job's bytes: its first number goes to column 0 of the first row
 unfoldable pub loaded : Width → List ℕ → ℕ → Span → List ℕ → List ℕ
-loaded w job place rows l = overRowsAt w rows (valueFrom job place (rows .first * 16)) l
-
-abbrev pub withSrc : State → File → List ℕ → State
-withSrc s A l = withSrcA s l
-withSrc s B l = withSrcB s l
-
-abbrev pub srcOf : State → File → List ℕ
-srcOf s A = s .srca
-srcOf s B = s .srcb
+loaded w job place rows l = overRowsAt w rows (valueFrom job place (rowStart (rows .first))) l
 
 -- what a field does: loads and zeroing write, an instruction steps, the others change no number
 unfoldable pub performed : List ℕ → Control → ℕ → Kind → State → State
 performed job c place kind.Settings s = s
-performed job c place (kind.LoadSrc file rows) s = withSrc s file (loaded Bits32 job place (loadedRows c file rows) (srcOf s file))
+performed job c place (kind.LoadSrc file rows) s = withSrcFile s file (loaded Bits32 job place (loadedRows c file rows) (srcFile s file))
 performed job c place (kind.LoadDst w rows) s = withDst s (loaded w job place rows (s .dst))
 performed job c place (kind.LoadRegister t r) s = withRegisters s (over (within (register t r) 1) (λ i. registerValue job place) (s .registers))
 performed job c place (kind.HandOver file) s = s

@@ -1,9 +1,9 @@
 // What one field does to the lent numbers.
+use cells::File;
 use cells::Part;
 use cells::Span;
 use cells::Width;
 use control::Control;
-use datum::File;
 use job::Kind;
 ghost use mathlib.Core.Path.{_≡_};
 ghost use mathlib.Core.List.{List};
@@ -12,12 +12,12 @@ ghost use lib.ListN.{length};
 ghost use Rattle.cells.specs.declared.Width.the-variants as Width;
 ghost use Rattle.cells.specs.Cells.{over, within};
 ghost use Rattle.cells.specs.Parts.{placeIn, overPart};
-ghost use Rattle.rules.specs.Rows.{bankRow, register, span};
-ghost use Rattle.step.specs.State.{state};
+ghost use Rattle.cells.specs.Layout.{bankRow, register, span};
+ghost use Rattle.cells.specs.State.{state, withSrcFile, srcFile};
 ghost use Rattle.job.specs.Values.{registerValue};
 ghost use Rattle.precheck.specs.Fields.{loadedRows};
 ghost use Rattle.precheck.specs.Check.{issueOf};
-ghost use Rattle.run.specs.Perform.{valueFrom, loaded, withSrc, srcOf, performed};
+ghost use Rattle.run.specs.Perform.{valueFrom, loaded, performed};
 
 // The places from `lo` on and before `hi` that lie in a part get the numbers of the load rows field at `place`. Number 0 of the part stands at `base`.
 fn load_part(
@@ -69,8 +69,8 @@ fn load_src(
     srcb: &mut [u32],
 )
     ensures { λ _. ⌜ ((d r : List ℕ) → state (now (srca .exit)) (now (srcb .exit)) d r
-        ≡ withSrc (state (now (srca .entry)) (now (srcb .entry)) d r) which
-        (loaded Width.Bits32 (now (job .entry)) place (loadedRows c which rows) (srcOf (state (now (srca .entry)) (now (srcb .entry)) d r) which))) ⌝ }
+        ≡ withSrcFile (state (now (srca .entry)) (now (srcb .entry)) d r) which
+        (loaded Width.Bits32 (now (job .entry)) place (loadedRows c which rows) (srcFile (state (now (srca .entry)) (now (srcb .entry)) d r) which))) ⌝ }
 {
     match which {
         File::A => load_rows(Width::Bits32, job, place, c.a.unpack, rows, srca),

@@ -7,6 +7,7 @@ use native.Mathlib.Omega.{arith}
 use lib.Dec.{ltb}
 use lib.ListN.{length}
 use borrow.Author.Tests.{le-leb, ltb-true, ltb-false, eqb-true, eq-eqb}
+use Rattle.cells.specs.State.{State, sizeTests, sized}
 use Rattle.cells.specs.declared.Width.{Width}
 use Rattle.cells.specs.declared.Width.the-variants.{Bits32, Bits16}
 use Rattle.cells.specs.Places.{rowCount}
@@ -19,14 +20,14 @@ use Rattle.control.specs.Record.{widthOf}
 use Rattle.control.specs.Range.{inRange}
 use Rattle.control.proofs.Kept.{shared-bounds}
 use Rattle.product.specs.Product.{fitTests, fits}
-use Rattle.rules.specs.Rows.{bankRow, rowsOf, rowA, rowB, rowDst}
+use Rattle.rules.specs.Rows.{heightRows, rowA, rowB, rowDst}
 use Rattle.rules.proofs.Places.{row-a-inside, row-b-inside, row-dst-inside, rows-few}
-use Rattle.step.specs.State.{State, sizeTests, sized}
+use Rattle.cells.specs.Layout.{bankRow}
 use Rattle.step.specs.Effect.{productOf}
 
 -- a multiply whose first row is inside Dst lies in one part of it: it cannot cross from row 511 to row 512
 in-one-part : (w : Width) (c : Control) (t : ℕ) (m : Multiply) → rowDst c t m < rowCount w
-    → numberIn (partAt w 8192 (rowDst c t m * 16)) 8192 (rowDst c t m * 16) + rowsOf (m .height) * 16 ≤ 8192
+    → numberIn (partAt w 8192 (rowDst c t m * 16)) 8192 (rowDst c t m * 16) + heightRows (m .height) * 16 ≤ 8192
 in-one-part Bits32 c t m lt = omega (arith, row-dst-inside Bits32 c t m lt)
 in-one-part Bits16 c t m lt =
     split (ltb (rowDst c t m * 16) 8192)
@@ -43,7 +44,7 @@ product-fits c t m h lt =
     let ra = row-a-inside c t in
     let rb = row-b-inside c t in
     all-of (fitTests (productOf c t m) 2048 2048 8192) (
-      le-leb (rowsOf (m .height)) 8 (rows-few (m .height)),
+      le-leb (heightRows (m .height)) 8 (rows-few (m .height)),
       (
         le-leb ((bankRow (c .a .matrix) (rowA c t) + 16) * 16) 2048 (omega arith),
         (
@@ -52,28 +53,3 @@ product-fits c t m h lt =
         ),
       ),
     )
-
--- ---- the four lengths
-
-pub record Sizes (s : State) : Type 0 where
-  pub srca : length (s .srca) ≡ 2048
-  pub srcb : length (s .srcb) ≡ 2048
-  pub dst : length (s .dst) ≡ 8192
-  pub registers : length (s .registers) ≡ 192
-
-pub sizes : (s : State) → sized s ≡ true → Sizes s
-unfolding sized
-sizes s h =
-    let e = each-of (sizeTests s) h in
-    record {
-      srca = eqb-true (length (s .srca)) 2048 (e .0);
-      srcb = eqb-true (length (s .srcb)) 2048 (e .1 .0);
-      dst = eqb-true (length (s .dst)) 8192 (e .1 .1 .0);
-      registers = eqb-true (length (s .registers)) 192 (e .1 .1 .1 .0);
-    }
-
-pub sized-of : (s : State) → Sizes s → sized s ≡ true
-unfolding sized
-sized-of s h =
-    all-of (sizeTests s)
-    (eq-eqb (length (s .srca)) 2048 (h .srca), (eq-eqb (length (s .srcb)) 2048 (h .srcb), (eq-eqb (length (s .dst)) 8192 (h .dst), (eq-eqb (length (s .registers)) 192 (h .registers), tt))))

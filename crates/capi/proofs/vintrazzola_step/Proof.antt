@@ -5,7 +5,7 @@ use native.Mathlib.Omega.{arith}
 use borrow.Author.Needs.{needs}
 use Rattle.rules.specs.Rules.{verdictAnswer}
 use Rattle.rules.specs.declared.Verdict.{Verdict}
-use Rattle.step.specs.State.{state}
+use Rattle.cells.specs.State.{state}
 use Rattle.capi.specs.Packed.{packed}
 use Rattle.capi.proofs.Steps.{Did, did}
 use Rattle.capi.proofs.vintrazzola_step.Statement.{statement}

@@ -51,8 +51,8 @@ returns c = issue-stop _ _ _ _ _ _ _ _ _ (c .before .before .before .before .bef
 enum-told : tie.Need-enum-told Inv-loop μ-loop
 enum-told c = search needs
 
-fields-after-requires : tie.Need-fields-after-requires Inv-loop μ-loop
-fields-after-requires c κs = search needs
+record-after-requires : tie.Need-record-after-requires Inv-loop μ-loop
+record-after-requires c κs = search needs
 
 add-count : tie.Need-add-count Inv-loop μ-loop
 add-count c = omega (arith, c .before .before .before .before .before .before .before .before .before .before .before .before .before .loop .inv .few, c .before .before .before .before .before .before .before .before .before .before .before .before .loop-test .taken, c .before .before .before .before .before .before .before .before .before .before .before .before .before .before .before .before .before .good)
@@ -88,7 +88,7 @@ loop-again : tie.Need-loop-again Inv-loop μ-loop
 loop-again c =
     let done = c .before .enum-told .given .1 in
     let after = c .before .before .before .check-issue .ensures .1 done in
-    issue-on _ _ _ _ _ _ _ _ _ (c .before .before .before .before .before .before .before .before .before .before .before .before .before .loop .inv) _ (c .before .before .before .before .before .before .before .before .before .before .before .before .loop-test .taken) (c .before .before .before .before .before .before .before .before .before .before .before .field-at .ensures) _ _ _ (c .before .before .before .before .before .before .before .before .before .kind .given .1) (c .before .before .before .check-issue .ensures .0) done (control-by _ _ _ _ _ (after .0) (c .fields-after .ensures)) (after .1)
+    issue-on _ _ _ _ _ _ _ _ _ (c .before .before .before .before .before .before .before .before .before .before .before .before .before .loop .inv) _ (c .before .before .before .before .before .before .before .before .before .before .before .before .loop-test .taken) (c .before .before .before .before .before .before .before .before .before .before .before .field-at .ensures) _ _ _ (c .before .before .before .before .before .before .before .before .before .kind .given .1) (c .before .before .before .check-issue .ensures .0) done (control-by _ _ _ _ _ (after .0) (c .record-after .ensures)) (after .1)
 
 loop-less-2 : tie.Need-loop-less-2 Inv-loop μ-loop
 loop-less-2 c = omega (arith, next-after (now (c .before .before .before .before .before .before .before .before .before .before .before .before .before .before .before .before .before .before .before .before .before .before .args .job)) (c .before .before .before .before .before .before .before .before .before .before .before .before .before .before .before .before .before .before .loop .at) (c .before .before .before .before .before .before .before .before .before .before .before .before .before .before .before .before .field-at .result) (c .before .before .before .before .before .before .before .before .before .before .before .before .before .before .before .before .before .loop-test .taken) (c .before .before .before .before .before .before .before .before .before .before .before .before .before .before .before .before .field-at .ensures), c .before .before .before .before .before .before .before .before .before .before .before .before .before .before .before .before .before .loop-test .taken)
@@ -127,7 +127,7 @@ check-from-spec =
     same-length
     returns
     enum-told
-    fields-after-requires
+    record-after-requires
     add-count
     judge-field-requires
     enum-known-verdict-2

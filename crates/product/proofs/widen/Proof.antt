@@ -2,7 +2,7 @@
 use mathlib.Core.Path.{sym, ap, _∙_}
 use native.Mathlib.Omega.{arith}
 use Rattle.cells.specs.declared.Part.{Part}
-use Rattle.cells.specs.Parts.{widthIn, partOf}
+use Rattle.cells.specs.Parts.{widthIn, heldIn}
 use Rattle.product.specs.Stored.{widePattern}
 use borrow.Author.Needs.{needs}
 use Rattle.product.proofs.widen.Statement.{statement}
@@ -28,11 +28,11 @@ returns c = search needs
 
 returns-2 : tie.Need-returns-2
 returns-2 c = let x = c .before .before .args .number in
-    (omega arith) ∙ sym (ap (λ (p : Part). widePattern (widthIn p) (partOf p x)) (c .enum-told2 .given .1))
+    (omega arith) ∙ sym (ap (λ (p : Part). widePattern (widthIn p) (heldIn p x)) (c .enum-told2 .given .1))
 
 returns-3 : tie.Need-returns-3
 returns-3 c = let x = c .before .before .args .number in
-    (omega arith) ∙ sym (ap (λ (p : Part). widePattern (widthIn p) (partOf p x)) (c .enum-told3 .given .1))
+    (omega arith) ∙ sym (ap (λ (p : Part). widePattern (widthIn p) (heldIn p x)) (c .enum-told3 .given .1))
 
 pub widen-spec : {M : Type 1} → statement M
 widen-spec =

@@ -1,6 +1,6 @@
 use Rattle.lines.proofs.Walk.{fewer}
 use Rattle.lines.specs.Cursor.{linesAt}
-use Rattle.step.specs.State.{state}
+use Rattle.cells.specs.State.{state}
 use lib.ListN.{length}
 use mathlib.Core.List.{[]}
 use mathlib.Core.Path.{sym, _∙_}
