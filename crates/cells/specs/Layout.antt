@@ -1,6 +1,6 @@
 -- Document 01, "The lent state and the control record" and "The job": each size once, and where a row or a register stands in its file. The code's
 -- constants of the same names are in src/layout.rt. Definitions only.
-use Prim.Native.Nat.{ℕ, _+_, _*_}
+use Prim.Native.Nat.{ℕ, _+_, _*_, _^_}
 use Rattle.cells.specs.declared.layout.Span.{Span}
 
 -- sixteen numbers to a row
@@ -24,6 +24,10 @@ threadCount = 3
 
 abbrev pub threadRegisters : ℕ
 threadRegisters = 64
+
+-- a Src value is below 2^19
+abbrev pub srcLimit : ℕ
+srcLimit = 2 ^ 19
 
 -- a job has at most 8,192 bytes
 abbrev pub jobBytes : ℕ

@@ -18,6 +18,9 @@ pub const THREADS: u8 = 3;
 
 pub const THREAD_REGISTERS: u32 = 64;
 
+// A Src value is below this.
+pub const SRC_LIMIT: u32 = 524288;
+
 // A job has at most so many bytes.
 pub const JOB_BYTES: usize = 8192;
 

@@ -1,3 +1,4 @@
+-- `cells::right_sizes` meets its contract. Assumes nothing.
 use mathlib.Core.Path.{refl}
 use Rattle.cells.specs.State.{sized}
 use Rattle.cells.proofs.right_sizes.Statement.{statement}

@@ -1,15 +1,16 @@
--- `precheck::check_from` meets its contract: the walk from here on is the walk of the job. Assumes nothing.
-use mathlib.Core.Path.{refl, sym, ap, _∙_}
-use Prim.Native.Nat.{_-_}
+-- `precheck::check_from` meets its contract. Assumes nothing.
+use Rattle.precheck.proofs.Checking.{Checking, checking-first, checking-end, turn-stop, turn-on}
+use Rattle.precheck.proofs.Judged.{control-by}
+use Rattle.precheck.specs.Marking.{fieldMarks}
+use Rattle.precheck.specs.Judging.{fieldRules}
+use Rattle.precheck.specs.Marks.{unsetBut}
+use Rattle.job.proofs.Walk.{next-after}
+use Rattle.walk.specs.FieldRecord.{fieldControl}
+use Rattle.rules.specs.Rules.{lowest}
 use native.Mathlib.Omega.{arith}
 use lib.ListN.{length}
-use denote.Ref.{now}
-use Rattle.control.specs.declared.Control.{Control}
-use Rattle.job.specs.Fields.{fieldsFrom}
-use Rattle.precheck.specs.Marks.{unsetBut}
-use Rattle.precheck.specs.Check.{checkFrom}
-use Rattle.precheck.proofs.Judged.{control-by}
-use Rattle.precheck.proofs.Walk.{Checking, next-after, no-issue, still, turn-stop, issue-stop, issue-on, other-on, check-end}
+use Prim.Native.Nat.{_-_}
+use mathlib.Core.Path.{refl, sym, _∙_}
 use borrow.Author.Needs.{needs}
 use Rattle.precheck.proofs.check_from.Statement.{statement}
 use Rattle.precheck.proofs.check_from.Tie as tie
@@ -25,13 +26,16 @@ start-record-requires c κs = search needs
 
 loop-holds : tie.Need-loop-holds Inv-loop μ-loop
 unfolding unsetBut
-loop-holds c =
-    let job = now (c .before .before .before .args .job) in
-    let dst = now (c .before .before .before .args .dst) in
-    record { checked = ap (λ (d : Control). checkFrom job (fieldsFrom job 0) d (unsetBut dst) 0) (c .start-record .ensures); long = refl; few = omega arith; inside = omega arith }
+loop-holds c = checking-first _ _ _ _ _ _ (c .start-record .ensures) refl
 
 field-at-requires : tie.Need-field-at-requires Inv-loop μ-loop
 field-at-requires c κs = search needs
+
+enum-told : tie.Need-enum-told Inv-loop μ-loop
+enum-told c = search needs
+
+settle-at-requires : tie.Need-settle-at-requires Inv-loop μ-loop
+settle-at-requires c κs = search needs
 
 enum-known-kind : tie.Need-enum-known-kind Inv-loop μ-loop
 enum-known-kind c = search needs
@@ -43,74 +47,131 @@ enum-known-verdict : tie.Need-enum-known-verdict Inv-loop μ-loop
 enum-known-verdict c = search needs
 
 same-length : tie.Need-same-length Inv-loop μ-loop
-same-length c = c .before .before .before .before .before .before .before .before .before .before .before .before .before .loop .inv .long
+same-length c = (c .before .before .before .before .before .before .before .before .before .before .before .before .before .loop .inv .long)
 
 returns : tie.Need-returns Inv-loop μ-loop
-returns c = issue-stop _ _ _ _ _ _ _ _ _ (c .before .before .before .before .before .before .before .before .before .before .before .before .before .loop .inv) _ (c .before .before .before .before .before .before .before .before .before .before .before .before .loop-test .taken) (c .before .before .before .before .before .before .before .before .before .before .before .field-at .ensures) _ _ _ (c .before .before .before .before .before .before .before .before .before .kind .given .1) (c .before .before .before .check-issue .ensures .0) _ (c .before .verdict .given .1)
+unfolding fieldRules lowest
+returns c = turn-stop _ _ _ _ _ _ _ _ _ (c .before .before .before .before .before .before .before .before .before .before .before .before .before .loop .inv) _ (c .before .before .before .before .before .before .before .before .before .before .before .before .loop-test .taken) (c .before .before .before .before .before .before .before .before .before .before .before .field-at .ensures) _ ((c .before .before .before .before .before .before .before .before .before .kind .given) .1) _ (sym ((c .before .before .before .check-issue .ensures) .0) ∙ (c .before .verdict .given) .1)
 
-enum-told : tie.Need-enum-told Inv-loop μ-loop
-enum-told c = search needs
+enum-told-2 : tie.Need-enum-told-2 Inv-loop μ-loop
+enum-told-2 c = search needs
 
 record-after-requires : tie.Need-record-after-requires Inv-loop μ-loop
 record-after-requires c κs = search needs
 
 add-count : tie.Need-add-count Inv-loop μ-loop
-add-count c = omega (arith, c .before .before .before .before .before .before .before .before .before .before .before .before .before .loop .inv .few, c .before .before .before .before .before .before .before .before .before .before .before .before .loop-test .taken, c .before .before .before .before .before .before .before .before .before .before .before .before .before .before .before .before .before .good)
+add-count c = omega (arith, (c .before .before .before .before .before .before .before .before .before .before .before .before .before .loop .inv .few), (c .before .before .before .before .before .before .before .before .before .before .before .before .loop-test .taken), (c .before .before .before .before .before .before .before .before .before .before .before .before .before .before .before .before .before .good))
 
-judge-field-requires : tie.Need-judge-field-requires Inv-loop μ-loop
-judge-field-requires c κs = search needs
+enum-known-kind-2 : tie.Need-enum-known-kind-2 Inv-loop μ-loop
+enum-known-kind-2 c = search needs
+
+judge-bank-requires : tie.Need-judge-bank-requires Inv-loop μ-loop
+judge-bank-requires c κs = search needs
 
 enum-known-verdict-2 : tie.Need-enum-known-verdict-2 Inv-loop μ-loop
 enum-known-verdict-2 c = search needs
 
 same-length-2 : tie.Need-same-length-2 Inv-loop μ-loop
-same-length-2 c = c .before .before .before .before .before .before .before .before .before .loop .inv .long
+same-length-2 c = (c .before .before .before .before .before .before .before .before .before .loop .inv .long)
 
 returns-2 : tie.Need-returns-2 Inv-loop μ-loop
-returns-2 c = turn-stop _ _ _ _ _ _ _ _ _ (c .before .before .before .before .before .before .before .before .before .loop .inv) _ (c .before .before .before .before .before .before .before .before .loop-test .taken) (c .before .before .before .before .before .before .before .field-at .ensures) _ (c .before .before .before .judge-field .ensures _ _ (no-issue (c .before .before .before .before .before .before .before .field-at .result .kind) (c .before .before .before .before .before .before .match .keys2))) _ (c .before .verdict2 .given .1)
+unfolding fieldRules lowest
+returns-2 c = turn-stop _ _ _ _ _ _ _ _ _ (c .before .before .before .before .before .before .before .before .before .loop .inv) _ (c .before .before .before .before .before .before .before .before .loop-test .taken) (c .before .before .before .before .before .before .before .field-at .ensures) _ ((c .before .before .before .before .before .kind2 .given) .1) _ (sym (c .before .before .before .judge-bank .ensures) ∙ (c .before .verdict2 .given) .1)
 
-enum-told-2 : tie.Need-enum-told-2 Inv-loop μ-loop
-enum-told-2 c = search needs
+enum-told-3 : tie.Need-enum-told-3 Inv-loop μ-loop
+enum-told-3 c = search needs
 
-mark-field-requires : tie.Need-mark-field-requires Inv-loop μ-loop
-mark-field-requires c κs = search needs
+hand-over-requires : tie.Need-hand-over-requires Inv-loop μ-loop
+hand-over-requires c κs = search needs
 
-moves-requires : tie.Need-moves-requires Inv-loop μ-loop
-moves-requires c κs = search needs
+enum-known-kind-3 : tie.Need-enum-known-kind-3 Inv-loop μ-loop
+enum-known-kind-3 c = search needs
 
-field-control-requires : tie.Need-field-control-requires Inv-loop μ-loop
-field-control-requires c κs = search needs
+check-write-requires : tie.Need-check-write-requires Inv-loop μ-loop
+check-write-requires c κs = search needs
 
-loop-less : tie.Need-loop-less Inv-loop μ-loop
-loop-less c = omega (arith, next-after (now (c .before .before .before .before .before .before .before .before .before .before .before .before .before .before .before .before .before .args .job)) (c .before .before .before .before .before .before .before .before .before .before .before .before .before .loop .at) (c .before .before .before .before .before .before .before .before .before .before .before .field-at .result) (c .before .before .before .before .before .before .before .before .before .before .before .before .loop-test .taken) (c .before .before .before .before .before .before .before .before .before .before .before .field-at .ensures), c .before .before .before .before .before .before .before .before .before .before .before .before .loop-test .taken)
-
-loop-again : tie.Need-loop-again Inv-loop μ-loop
-loop-again c =
-    let done = c .before .enum-told .given .1 in
-    let after = c .before .before .before .check-issue .ensures .1 done in
-    issue-on _ _ _ _ _ _ _ _ _ (c .before .before .before .before .before .before .before .before .before .before .before .before .before .loop .inv) _ (c .before .before .before .before .before .before .before .before .before .before .before .before .loop-test .taken) (c .before .before .before .before .before .before .before .before .before .before .before .field-at .ensures) _ _ _ (c .before .before .before .before .before .before .before .before .before .kind .given .1) (c .before .before .before .check-issue .ensures .0) done (control-by _ _ _ _ _ (after .0) (c .record-after .ensures)) (after .1)
-
-loop-less-2 : tie.Need-loop-less-2 Inv-loop μ-loop
-loop-less-2 c = omega (arith, next-after (now (c .before .before .before .before .before .before .before .before .before .before .before .before .before .before .before .before .before .before .before .before .before .before .args .job)) (c .before .before .before .before .before .before .before .before .before .before .before .before .before .before .before .before .before .before .loop .at) (c .before .before .before .before .before .before .before .before .before .before .before .before .before .before .before .before .field-at .result) (c .before .before .before .before .before .before .before .before .before .before .before .before .before .before .before .before .before .loop-test .taken) (c .before .before .before .before .before .before .before .before .before .before .before .before .before .before .before .before .field-at .ensures), c .before .before .before .before .before .before .before .before .before .before .before .before .before .before .before .before .before .loop-test .taken)
-
-loop-again-2 : tie.Need-loop-again-2 Inv-loop μ-loop
-loop-again-2 c =
-    let z = no-issue (c .before .before .before .before .before .before .before .before .before .before .before .before .before .before .before .before .field-at .result .kind) (c .before .before .before .before .before .before .before .before .before .before .before .before .before .before .before .match .keys2) in
-    other-on _ _ _ _ _ _ _ _ _ (c .before .before .before .before .before .before .before .before .before .before .before .before .before .before .before .before .before .before .loop .inv) _ (c .before .before .before .before .before .before .before .before .before .before .before .before .before .before .before .before .before .loop-test .taken) (c .before .before .before .before .before .before .before .before .before .before .before .before .before .before .before .before .field-at .ensures) z _ (c .before .before .before .before .before .before .before .before .before .before .before .before .judge-field .ensures _ _ z) (c .before .before .before .before .before .before .before .before .before .before .enum-told2 .given .1) (c .field-control .ensures) (c .before .before .before .before .before .mark-field .ensures z) (c .before .before .before .before .before .mark-field .kept .1 .1 .1 .1 .0)
-
-loop-less-3 : tie.Need-loop-less-3 Inv-loop μ-loop
-loop-less-3 c = omega (arith, next-after (now (c .before .before .before .before .before .before .before .before .before .before .before .before .before .before .before .before .before .before .before .before .before .args .job)) (c .before .before .before .before .before .before .before .before .before .before .before .before .before .before .before .before .before .loop .at) (c .before .before .before .before .before .before .before .before .before .before .before .before .before .before .before .field-at .result) (c .before .before .before .before .before .before .before .before .before .before .before .before .before .before .before .before .loop-test .taken) (c .before .before .before .before .before .before .before .before .before .before .before .before .before .before .before .field-at .ensures), c .before .before .before .before .before .before .before .before .before .before .before .before .before .before .before .before .loop-test .taken)
-
-loop-again-3 : tie.Need-loop-again-3 Inv-loop μ-loop
-loop-again-3 c =
-    let z = no-issue (c .before .before .before .before .before .before .before .before .before .before .before .before .before .before .before .field-at .result .kind) (c .before .before .before .before .before .before .before .before .before .before .before .before .before .before .match .keys2) in
-    other-on _ _ _ _ _ _ _ _ _ (c .before .before .before .before .before .before .before .before .before .before .before .before .before .before .before .before .before .loop .inv) _ (c .before .before .before .before .before .before .before .before .before .before .before .before .before .before .before .before .loop-test .taken) (c .before .before .before .before .before .before .before .before .before .before .before .before .before .before .before .field-at .ensures) z _ (c .before .before .before .before .before .before .before .before .before .before .before .judge-field .ensures _ _ z) (c .before .before .before .before .before .before .before .before .before .enum-told2 .given .1) (still _ _ _ _ (sym (c .before .moves .ensures) ∙ c .if1 .left)) (c .before .before .before .before .mark-field .ensures z) (c .before .before .before .before .mark-field .kept .1 .1 .1 .1 .0)
+enum-known-verdict-3 : tie.Need-enum-known-verdict-3 Inv-loop μ-loop
+enum-known-verdict-3 c = search needs
 
 same-length-3 : tie.Need-same-length-3 Inv-loop μ-loop
-same-length-3 c = c .before .loop .inv .long
+same-length-3 c = (c .before .before .before .before .before .check-write .kept) .1 .1 .1 .1 .0 ∙ (c .before .before .before .before .before .before .before .before .before .before .before .before .before .before .before .loop .inv .long)
 
 returns-3 : tie.Need-returns-3 Inv-loop μ-loop
-returns-3 c = sym (check-end _ _ _ _ _ (c .loop-test .left)) ∙ c .before .loop .inv .checked
+unfolding fieldRules lowest
+returns-3 c = turn-stop _ _ _ _ _ _ _ _ _ (c .before .before .before .before .before .before .before .before .before .before .before .before .before .before .before .loop .inv) _ (c .before .before .before .before .before .before .before .before .before .before .before .before .before .before .loop-test .taken) (c .before .before .before .before .before .before .before .before .before .before .before .before .before .field-at .ensures) _ ((c .before .before .before .before .before .before .before .before .before .before .before .kind3 .given) .1) _ (sym ((c .before .before .before .before .before .check-write .ensures) .0) ∙ (c .before .verdict3 .given) .1)
+
+enum-told-4 : tie.Need-enum-told-4 Inv-loop μ-loop
+enum-told-4 c = search needs
+
+enum-known-kind-4 : tie.Need-enum-known-kind-4 Inv-loop μ-loop
+enum-known-kind-4 c = search needs
+
+judge-output-requires : tie.Need-judge-output-requires Inv-loop μ-loop
+judge-output-requires c κs = search needs
+
+enum-known-verdict-4 : tie.Need-enum-known-verdict-4 Inv-loop μ-loop
+enum-known-verdict-4 c = search needs
+
+same-length-4 : tie.Need-same-length-4 Inv-loop μ-loop
+same-length-4 c = (c .before .before .before .before .before .before .before .before .before .before .before .loop .inv .long)
+
+returns-4 : tie.Need-returns-4 Inv-loop μ-loop
+unfolding fieldRules lowest
+returns-4 c = turn-stop _ _ _ _ _ _ _ _ _ (c .before .before .before .before .before .before .before .before .before .before .before .loop .inv) _ (c .before .before .before .before .before .before .before .before .before .before .loop-test .taken) (c .before .before .before .before .before .before .before .before .before .field-at .ensures) _ ((c .before .before .before .before .before .before .before .kind4 .given) .1) _ (sym ((c .before .before .before .judge-output .ensures) _ _) ∙ (c .before .verdict4 .given) .1)
+
+enum-told-5 : tie.Need-enum-told-5 Inv-loop μ-loop
+enum-told-5 c = search needs
+
+enum-told-6 : tie.Need-enum-told-6 Inv-loop μ-loop
+enum-told-6 c = search needs
+
+loop-less : tie.Need-loop-less Inv-loop μ-loop
+loop-less c = omega (arith, next-after _ _ _ (c .before .before .before .before .loop-test .taken) (c .before .before .before .field-at .ensures), (c .before .before .before .before .loop-test .taken))
+
+loop-again : tie.Need-loop-again Inv-loop μ-loop
+unfolding fieldRules fieldControl fieldMarks lowest
+loop-again c = turn-on _ _ _ _ _ _ _ _ _ (c .before .before .before .before .before .loop .inv) _ (c .before .before .before .before .loop-test .taken) (c .before .before .before .field-at .ensures) _ ((c .before .enum-told .given) .1) (refl) ((c .settle-at .ensures)) (refl) (refl) (omega arith)
+
+loop-less-2 : tie.Need-loop-less-2 Inv-loop μ-loop
+loop-less-2 c = omega (arith, next-after _ _ _ (c .before .before .before .before .before .before .before .before .before .before .before .before .loop-test .taken) (c .before .before .before .before .before .before .before .before .before .before .before .field-at .ensures), (c .before .before .before .before .before .before .before .before .before .before .before .before .loop-test .taken))
+
+loop-again-2 : tie.Need-loop-again-2 Inv-loop μ-loop
+unfolding fieldRules fieldControl fieldMarks lowest
+loop-again-2 c = turn-on _ _ _ _ _ _ _ _ _ (c .before .before .before .before .before .before .before .before .before .before .before .before .before .loop .inv) _ (c .before .before .before .before .before .before .before .before .before .before .before .before .loop-test .taken) (c .before .before .before .before .before .before .before .before .before .before .before .field-at .ensures) _ ((c .before .before .before .before .before .before .before .before .before .kind .given) .1) (sym ((c .before .before .before .check-issue .ensures) .0) ∙ (c .before .enum-told2 .given) .1) (control-by _ _ _ _ _ ((c .before .before .before .check-issue .ensures) .1 ((c .before .enum-told2 .given) .1) .0) (c .record-after .ensures)) ((c .before .before .before .check-issue .ensures) .1 ((c .before .enum-told2 .given) .1) .1) (refl) (refl)
+
+loop-less-3 : tie.Need-loop-less-3 Inv-loop μ-loop
+loop-less-3 c = omega (arith, next-after _ _ _ (c .before .before .before .before .before .before .before .before .loop-test .taken) (c .before .before .before .before .before .before .before .field-at .ensures), (c .before .before .before .before .before .before .before .before .loop-test .taken))
+
+loop-again-3 : tie.Need-loop-again-3 Inv-loop μ-loop
+unfolding fieldRules fieldControl fieldMarks lowest
+loop-again-3 c = turn-on _ _ _ _ _ _ _ _ _ (c .before .before .before .before .before .before .before .before .before .loop .inv) _ (c .before .before .before .before .before .before .before .before .loop-test .taken) (c .before .before .before .before .before .before .before .field-at .ensures) _ ((c .before .before .before .before .before .kind2 .given) .1) (sym (c .before .before .before .judge-bank .ensures) ∙ (c .before .enum-told3 .given) .1) ((c .hand-over .ensures)) (refl) (refl) (omega arith)
+
+loop-less-4 : tie.Need-loop-less-4 Inv-loop μ-loop
+loop-less-4 c = omega (arith, next-after _ _ _ (c .before .before .before .before .before .before .before .before .before .before .before .before .before .loop-test .taken) (c .before .before .before .before .before .before .before .before .before .before .before .before .field-at .ensures), (c .before .before .before .before .before .before .before .before .before .before .before .before .before .loop-test .taken))
+
+loop-again-4 : tie.Need-loop-again-4 Inv-loop μ-loop
+unfolding fieldRules fieldControl fieldMarks lowest
+loop-again-4 c = turn-on _ _ _ _ _ _ _ _ _ (c .before .before .before .before .before .before .before .before .before .before .before .before .before .before .loop .inv) _ (c .before .before .before .before .before .before .before .before .before .before .before .before .before .loop-test .taken) (c .before .before .before .before .before .before .before .before .before .before .before .before .field-at .ensures) _ ((c .before .before .before .before .before .before .before .before .before .before .kind3 .given) .1) (sym ((c .before .before .before .before .check-write .ensures) .0) ∙ (c .enum-told4 .given) .1) (refl) ((c .before .before .before .before .check-write .ensures) .1) ((c .before .before .before .before .check-write .kept) .1 .1 .1 .1 .0) (omega arith)
+
+loop-less-5 : tie.Need-loop-less-5 Inv-loop μ-loop
+loop-less-5 c = omega (arith, next-after _ _ _ (c .before .before .before .before .before .before .before .before .before .loop-test .taken) (c .before .before .before .before .before .before .before .before .field-at .ensures), (c .before .before .before .before .before .before .before .before .before .loop-test .taken))
+
+loop-again-5 : tie.Need-loop-again-5 Inv-loop μ-loop
+unfolding fieldRules fieldControl fieldMarks lowest
+loop-again-5 c = turn-on _ _ _ _ _ _ _ _ _ (c .before .before .before .before .before .before .before .before .before .before .loop .inv) _ (c .before .before .before .before .before .before .before .before .before .loop-test .taken) (c .before .before .before .before .before .before .before .before .field-at .ensures) _ ((c .before .before .before .before .before .before .kind4 .given) .1) (sym ((c .before .before .judge-output .ensures) _ _) ∙ (c .enum-told5 .given) .1) (refl) (refl) (refl) (omega arith)
+
+loop-less-6 : tie.Need-loop-less-6 Inv-loop μ-loop
+loop-less-6 c = omega (arith, next-after _ _ _ (c .before .before .before .loop-test .taken) (c .before .before .field-at .ensures), (c .before .before .before .loop-test .taken))
+
+loop-again-6 : tie.Need-loop-again-6 Inv-loop μ-loop
+unfolding fieldRules fieldControl fieldMarks lowest
+loop-again-6 c = turn-on _ _ _ _ _ _ _ _ _ (c .before .before .before .before .loop .inv) _ (c .before .before .before .loop-test .taken) (c .before .before .field-at .ensures) _ ((c .enum-told6 .given) .1) (refl) (refl) (refl) (refl) (omega arith)
+
+same-length-5 : tie.Need-same-length-5 Inv-loop μ-loop
+same-length-5 c = (c .before .loop .inv .long)
+
+returns-5 : tie.Need-returns-5 Inv-loop μ-loop
+returns-5 c = checking-end _ _ _ _ _ _ _ _ _ (c .before .loop .inv) (c .loop-test .left)
 
 pub check-from-spec : {M : Type 1} → statement M
 check-from-spec =
@@ -121,27 +182,47 @@ check-from-spec =
     start-record-requires
     loop-holds
     field-at-requires
+    enum-told
+    settle-at-requires
     enum-known-kind
     check-issue-requires
     enum-known-verdict
     same-length
     returns
-    enum-told
+    enum-told-2
     record-after-requires
     add-count
-    judge-field-requires
+    enum-known-kind-2
+    judge-bank-requires
     enum-known-verdict-2
     same-length-2
     returns-2
-    enum-told-2
-    mark-field-requires
-    moves-requires
-    field-control-requires
+    enum-told-3
+    hand-over-requires
+    enum-known-kind-3
+    check-write-requires
+    enum-known-verdict-3
+    same-length-3
+    returns-3
+    enum-told-4
+    enum-known-kind-4
+    judge-output-requires
+    enum-known-verdict-4
+    same-length-4
+    returns-4
+    enum-told-5
+    enum-told-6
     loop-less
     loop-again
     loop-less-2
     loop-again-2
     loop-less-3
     loop-again-3
-    same-length-3
-    returns-3)
+    loop-less-4
+    loop-again-4
+    loop-less-5
+    loop-again-5
+    loop-less-6
+    loop-again-6
+    same-length-5
+    returns-5)

@@ -1,3 +1,4 @@
+-- `cells::layout::bank_span` meets its contract. Assumes nothing.
 use borrow.Author.Needs.{needs}
 use Rattle.cells.proofs.layout.bank_span.Statement.{statement}
 use Rattle.cells.proofs.layout.bank_span.Tie as tie

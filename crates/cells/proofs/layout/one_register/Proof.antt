@@ -1,3 +1,4 @@
+-- `cells::layout::one_register` meets its contract. Assumes nothing.
 use borrow.Author.Needs.{needs}
 use Rattle.cells.proofs.layout.one_register.Statement.{statement}
 use Rattle.cells.proofs.layout.one_register.Tie as tie

@@ -1,0 +1,92 @@
+-- `job::fields::field_at` meets its contract: a cut field, or its payload read. Assumes nothing.
+use Rattle.job.specs.Fields.{endAt, fieldAt}
+use Prim.Native.Nat.{_<_, _≤_}
+use lib.ListN.{length}
+use denote.Ref.{now}
+use borrow.Author.Tests.{lt-leb, le-leb}
+use native.Mathlib.Omega.{arith}
+use native.Mathlib.Nat.{add-sub-cancel-left}
+use borrow.Author.Needs.{needs}
+use Rattle.job.proofs.fields.field_at.Statement.{statement}
+use Rattle.job.proofs.fields.field_at.Tie as tie
+
+returns : tie.Need-returns
+unfolding fieldAt
+returns c =
+    let a = c .before .before .args in
+    let h : length (now (a .job)) < endAt (now (a .job)) (a .at) = omega arith in
+    simp (lt-leb _ _ h)
+
+returns-2 : tie.Need-returns-2
+unfolding fieldAt
+returns-2 c =
+    let a = c .before .before .before .args in
+    let h : length (now (a .job)) < endAt (now (a .job)) (a .at) = omega arith in
+    simp (lt-leb _ _ h)
+
+add-b : tie.Need-add-b
+add-b c = search needs
+
+add-read2 : tie.Need-add-read2
+add-read2 c = search needs
+
+read2-requires : tie.Need-read2-requires
+read2-requires c κs = search needs
+
+cast-len : tie.Need-cast-len
+cast-len c = search needs
+
+sub-if3 : tie.Need-sub-if3
+sub-if3 c = search needs
+
+returns-3 : tie.Need-returns-3
+unfolding fieldAt
+returns-3 c =
+    let a = c .before .before .before .before .before .args in
+    let h : length (now (a .job)) < endAt (now (a .job)) (a .at) = omega arith in
+    simp (lt-leb _ _ h)
+
+add-e : tie.Need-add-e
+add-e c = search needs
+
+shared-slice-read-read-kind : tie.Need-shared-slice-read-read-kind
+shared-slice-read-read-kind c = search needs
+
+sub-read-kind : tie.Need-sub-read-kind
+sub-read-kind c = search needs
+
+part-read-kind-start : tie.Need-part-read-kind-start
+part-read-kind-start c = search needs
+
+part-read-kind-end : tie.Need-part-read-kind-end
+part-read-kind-end c = search needs
+
+read-kind-requires : tie.Need-read-kind-requires
+read-kind-requires c κs = search needs
+
+returns-4 : tie.Need-returns-4
+unfolding fieldAt
+returns-4 c =
+    let a = c .before .before .before .before .before .before .before .before .args in
+    let h : endAt (now (a .job)) (a .at) ≤ length (now (a .job)) = omega arith in
+    simp (le-leb _ _ h, c .read-kind .ensures, (c .before .before .before .before .read2 .ensures) .0, add-sub-cancel-left)
+
+pub field-at-spec : {M : Type 1} → statement M
+field-at-spec =
+    tie.close
+    (tie.spec
+    returns
+    returns-2
+    add-b
+    add-read2
+    read2-requires
+    cast-len
+    sub-if3
+    returns-3
+    add-e
+    shared-slice-read-read-kind
+    sub-read-kind
+    part-read-kind-start
+    part-read-kind-end
+    read-kind-requires
+    returns-4)

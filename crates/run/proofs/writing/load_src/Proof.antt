@@ -1,0 +1,51 @@
+-- `run::writing::load_src` meets its contract. Assumes nothing.
+use denote.Ref.{now}
+use mathlib.Core.Path.{_∙_}
+use Rattle.run.specs.Perform.{loaded}
+use Rattle.cells.specs.declared.Width.the-variants.{Bits32}
+use Rattle.cells.specs.Layout.{span}
+use Rattle.cells.specs.State.{state}
+use borrow.Author.Needs.{needs}
+use Rattle.run.proofs.writing.load_src.Statement.{statement}
+use Rattle.run.proofs.writing.load_src.Tie as tie
+
+first-loaded-requires : tie.Need-first-loaded-requires
+first-loaded-requires c κs = search needs
+
+enum-told : tie.Need-enum-told
+enum-told c = search needs
+
+load-rows-requires : tie.Need-load-rows-requires
+load-rows-requires c κs = search needs
+
+enum-told-2 : tie.Need-enum-told-2
+enum-told-2 c = search needs
+
+load-rows-requires-2 : tie.Need-load-rows-requires-2
+load-rows-requires-2 c κs = search needs
+
+same-length : tie.Need-same-length
+same-length c = search needs
+
+returns : tie.Need-returns
+returns c = let a = (c .before .before .before .before .before .before .before .before .before .before .args) in λ d r. (λ i. state ((c .before .before .load-rows .ensures) i) (now (a .srcb)) d r) ∙ (λ i. state (loaded Bits32 (now (a .job)) (a .place) (span ((c .before .before .before .before .before .before .first-loaded .ensures) .0 i) (a .rows .count)) (now (a .srca))) (now (a .srcb)) d r) ∙ simp ((c .before .before .before .before .enum-told .given) .1)
+
+same-length-2 : tie.Need-same-length-2
+same-length-2 c = search needs
+
+returns-2 : tie.Need-returns-2
+returns-2 c = let a = (c .before .before .before .before .before .before .before .before .before .before .args) in λ d r. (λ i. state (now (a .srca)) ((c .before .before .load-rows2 .ensures) i) d r) ∙ (λ i. state (now (a .srca)) (loaded Bits32 (now (a .job)) (a .place) (span ((c .before .before .before .before .before .before .first-loaded .ensures) .0 i) (a .rows .count)) (now (a .srcb))) d r) ∙ simp ((c .before .before .before .before .enum-told2 .given) .1)
+
+pub load-src-spec : {M : Type 1} → statement M
+load-src-spec =
+    tie.close
+    (tie.spec
+    first-loaded-requires
+    enum-told
+    load-rows-requires
+    enum-told-2
+    load-rows-requires-2
+    same-length
+    returns
+    same-length-2
+    returns-2)

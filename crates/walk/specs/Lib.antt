@@ -1,0 +1,2 @@
+-- The definitions that the contracts of `walk` cite.
+pub mod FieldRecord
