@@ -1,4 +1,4 @@
 -- Laws of the lines and of the texts, for the programs.
 pub mod Texts
-pub mod Walk
+pub mod Cursors
 mod Examples

@@ -6,6 +6,8 @@ use Prim.Native.Nat.{ℕ, zero, suc, _+_, _-_}
 use lib.Dec.{ltb}
 use lib.ListN.{drop}
 use Rattle.job.specs.Fields.{fieldsFrom}
+use Rattle.job.specs.declared.Output.{Output}
+use Rattle.job.specs.declared.Output.the-variants.{Rows, Register}
 use Rattle.job.specs.declared.Kind.{Kind}
 use Rattle.job.specs.declared.Kind.the-variants as kind
 use Rattle.job.specs.declared.Field.{Field}
@@ -25,39 +27,29 @@ startCursor = record { at = 0; line = 0 }
 unfoldable pub linesAt : List ℕ → Cursor → State → List Line
 linesAt job c s = drop (c .line) (linesFrom (fieldsFrom job (c .at)) s)
 
--- how many lines a field prints
-abbrev pub lineCount : Kind → ℕ
-lineCount kind.Settings = 0
-lineCount (kind.LoadSrc file rows) = 0
-lineCount (kind.LoadDst w rows) = 0
-lineCount (kind.LoadRegister t r) = 0
-lineCount (kind.HandOver file) = 0
-lineCount (kind.Issue t w) = 0
-lineCount (kind.OutputRows w rows) = rows .count
-lineCount (kind.OutputRegister t r) = 1
-lineCount (kind.ZeroRows w rows) = 0
-lineCount kind.Wrong = 0
+-- how many lines an output prints, and what its i-th line shows
+abbrev pub lineCount : Output → ℕ
+lineCount (Rows w rows) = rows .count
+lineCount (Register t r) = 1
 
--- what its i-th line shows; a field that prints none is never asked
-abbrev pub whatAt : Kind → ℕ → What
-whatAt kind.Settings i = what.Register 0 0
-whatAt (kind.LoadSrc file rows) i = what.Register 0 0
-whatAt (kind.LoadDst w rows) i = what.Register 0 0
-whatAt (kind.LoadRegister t r) i = what.Register 0 0
-whatAt (kind.HandOver file) i = what.Register 0 0
-whatAt (kind.Issue t w) i = what.Register 0 0
-whatAt (kind.OutputRows w rows) i = what.Row w (rows .first + i)
-whatAt (kind.OutputRegister t r) i = what.Register t r
-whatAt (kind.ZeroRows w rows) i = what.Register 0 0
-whatAt kind.Wrong i = what.Register 0 0
+abbrev pub whatAt : Output → ℕ → What
+whatAt (Rows w rows) i = what.Row w (rows .first + i)
+whatAt (Register t r) i = what.Register t r
 
--- the next line of a list of fields of which i lines were read, and the cursor after it
+-- The next line of a field at a place, and the cursor after it; i lines from there on were read. A field that has none left leaves it to the rest.
+unfoldable pub nextIn : Kind → ℕ → ℕ → (ℕ → Found) → Found
+nextIn kind.Settings place i rest = rest i
+nextIn (kind.Issue t w) place i rest = rest i
+nextIn (kind.HandOver file) place i rest = rest i
+nextIn (kind.Writes x) place i rest = rest i
+nextIn (kind.Prints o) place i rest =
+    cond (ltb i (lineCount o)) (found.Line (whatAt o i) (record { at = place; line = i + 1 })) (rest (i - lineCount o))
+nextIn (kind.Wrong x) place i rest = rest i
+
+-- the next line of a list of fields
 unfoldable pub nextFrom : List Field → ℕ → Found
 nextFrom [] i = found.End
-nextFrom (f ∷ fs) i =
-    cond (ltb i (lineCount (f .kind)))
-    (found.Line (whatAt (f .kind) i) (record { at = f .place; line = i + 1 }))
-    (nextFrom fs (i - lineCount (f .kind)))
+nextFrom (f ∷ fs) i = nextIn (f .kind) (f .place) i (λ n. nextFrom fs n)
 
 unfoldable pub nextOf : List ℕ → Cursor → Found
 nextOf job c = nextFrom (fieldsFrom job (c .at)) (c .line)

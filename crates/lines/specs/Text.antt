@@ -8,7 +8,9 @@ use Prim.Native.Nat.{ℕ, zero, suc, _+_, _/_, _%_, _≤_}
 use lib.Dec.{ltb}
 use lib.ListN.{length, getD, set, take, replicate}
 use Rattle.cells.specs.Places.{digitsOf}
-use Rattle.cells.specs.Layout.{register}
+use Rattle.cells.specs.Layout.{columnCount, register}
+use Rattle.word.specs.declared.Refusal.{Refusal}
+use Rattle.word.specs.Refusal.{numberOf}
 use Rattle.lines.specs.Lines.{Line, row, value, columns}
 use Rattle.lines.specs.declared.Text.{Text}
 use Rattle.lines.specs.declared.What.{What}
@@ -93,7 +95,7 @@ textOf (value t r v) = wordRegister ++ decimal t ++ 32 ∷ decimal r ++ values 8
 
 -- the line that stands at a place, over Dst and the registers
 unfoldable pub lineOf : What → List ℕ → List ℕ → Line
-lineOf (what.Row w r) dst registers = row w r (columns w dst r 0 16)
+lineOf (what.Row w r) dst registers = row w r (columns w dst r 0 columnCount)
 lineOf (what.Register t r) dst registers = value t r (getD registers (register t r) 0)
 
 -- ---- answers
@@ -101,8 +103,8 @@ lineOf (what.Register t r) dst registers = value t r (getD registers (register t
 unfoldable pub finishedText : ℕ → List ℕ
 finishedText n = wordFinished ++ decimal n ++ 10 ∷ []
 
-unfoldable pub refusedText : ℕ → ℕ → List ℕ
-refusedText n p = wordRefused ++ decimal n ++ wordAt ++ decimal p ++ 10 ∷ []
+unfoldable pub refusedText : Refusal → ℕ → List ℕ
+refusedText r p = wordRefused ++ decimal (numberOf r) ++ wordAt ++ decimal p ++ 10 ∷ []
 
 unfoldable pub passedText : ℕ → List ℕ
 passedText n = wordPassed ++ decimal n ++ 10 ∷ []

@@ -3,6 +3,8 @@ mod write;
 
 use cells::Width;
 use job::Kind;
+use job::Output;
+use word::Refusal;
 use write::push;
 use write::push_decimal;
 use write::push_row;
@@ -10,7 +12,7 @@ use write::push_value;
 use write::push_word;
 ghost use mathlib.Core.Path.{_≡_};
 ghost use Prim.Native.Nat.{ℕ, _+_, _<_};
-ghost use Rattle.job.specs.Range.{InRange};
+ghost use Rattle.job.specs.Range.{OutputIn};
 ghost use Rattle.lines.specs.Text.{emptyText, made, Holds, textOf, lineOf, finishedText, refusedText, passedText};
 ghost use Rattle.lines.specs.Cursor.{startCursor, lineCount, whatAt, nextOf};
 
@@ -45,55 +47,28 @@ pub fn start() -> Cursor
     Cursor { at: 0, line: 0 }
 }
 
-fn line_count(kind: Kind) -> u32
-    ensures { λ r. ⌜ r ≡ lineCount kind ⌝ }
+fn line_count(output: Output) -> u32
+    ensures { λ r. ⌜ r ≡ lineCount output ⌝ }
 {
-    match kind {
-        Kind::Settings => 0,
-        Kind::LoadSrc { file: _, rows: _ } => 0,
-        Kind::LoadDst { width: _, rows: _ } => 0,
-        Kind::LoadRegister {
-            thread: _,
-            register: _,
-        } => 0,
-        Kind::HandOver { file: _ } => 0,
-        Kind::Issue { thread: _, word: _ } => 0,
-        Kind::OutputRows { width: _, rows } => rows.count,
-        Kind::OutputRegister {
+    match output {
+        Output::Rows { width: _, rows } => rows.count,
+        Output::Register {
             thread: _,
             register: _,
         } => 1,
-        Kind::ZeroRows { width: _, rows: _ } => 0,
-        Kind::Wrong => 0,
     }
 }
 
-// A field that prints no line is never asked.
-fn what_at(kind: Kind, line: u32) -> What
-    requires { ⌜ InRange kind × (line < lineCount kind) ⌝ }
-    ensures { λ r. ⌜ r ≡ whatAt kind line ⌝ }
+fn what_at(output: Output, line: u32) -> What
+    requires { ⌜ OutputIn output × (line < lineCount output) ⌝ }
+    ensures { λ r. ⌜ r ≡ whatAt output line ⌝ }
 {
-    let none = What::Register {
-        thread: 0,
-        register: 0,
-    };
-    match kind {
-        Kind::Settings => none,
-        Kind::LoadSrc { file: _, rows: _ } => none,
-        Kind::LoadDst { width: _, rows: _ } => none,
-        Kind::LoadRegister {
-            thread: _,
-            register: _,
-        } => none,
-        Kind::HandOver { file: _ } => none,
-        Kind::Issue { thread: _, word: _ } => none,
-        Kind::OutputRows { width, rows } => What::Row {
+    match output {
+        Output::Rows { width, rows } => What::Row {
             width,
             row: rows.first + line,
         },
-        Kind::OutputRegister { thread, register } => What::Register { thread, register },
-        Kind::ZeroRows { width: _, rows: _ } => none,
-        Kind::Wrong => none,
+        Output::Register { thread, register } => What::Register { thread, register },
     }
 }
 
@@ -107,16 +82,25 @@ pub fn next(job: &[u8], from: Cursor) -> Found
     while at < n {
         let f = job::field_at(job, at);
         let kind = f.kind;
-        let count = line_count(kind);
-        if line < count {
-            let what = what_at(kind, line);
-            let after = Cursor {
-                at: f.place,
-                line: line + 1,
-            };
-            return Found::Line { what, after };
+        match kind {
+            Kind::Settings => {}
+            Kind::Issue { thread: _, word: _ } => {}
+            Kind::HandOver { file: _ } => {}
+            Kind::Writes(_) => {}
+            Kind::Prints(output) => {
+                let count = line_count(output);
+                if line < count {
+                    let what = what_at(output, line);
+                    let after = Cursor {
+                        at: f.place,
+                        line: line + 1,
+                    };
+                    return Found::Line { what, after };
+                }
+                line -= count;
+            }
+            Kind::Wrong(_) => {}
         }
-        line -= count;
         at = f.next;
     }
     Found::End
@@ -146,7 +130,7 @@ pub fn line_text(what: What, dst: &[u32], registers: &[u32]) -> Text
         What::Register { thread, register } => {
             let t = push_decimal(push_word(empty(), b"G "), thread as usize);
             let u = push_decimal(push(t, 32), register as usize);
-            let at = thread as usize * 64 + register as usize;
+            let at = cells::register_at(thread, register) as usize;
             let v = cells::read(Width::Bits32, registers, at);
             push(push_value(u, 8, v), 10)
         }
@@ -160,10 +144,11 @@ pub fn finished_text(count: usize) -> Text
     push(push_decimal(push_word(empty(), b"finished "), count), 10)
 }
 
-pub fn refused_text(number: u8, place: usize) -> Text
-    ensures whole { λ r. ⌜ r ≡ made (refusedText number place) ⌝ }
-    ensures first { λ r. ⌜ Holds r (refusedText number place) ⌝ }
+pub fn refused_text(refusal: Refusal, place: usize) -> Text
+    ensures whole { λ r. ⌜ r ≡ made (refusedText refusal place) ⌝ }
+    ensures first { λ r. ⌜ Holds r (refusedText refusal place) ⌝ }
 {
+    let number = word::number(refusal);
     let t = push_decimal(push_word(empty(), b"refused "), number as usize);
     push(push_decimal(push_word(t, b" at "), place), 10)
 }

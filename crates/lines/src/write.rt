@@ -1,9 +1,11 @@
 // Bytes, words and numbers put at a text's end. Nothing is put where the text is full.
 use crate::Text;
+use cells::COLUMNS;
 use cells::Width;
 ghost use mathlib.Core.Path.{_≡_};
 ghost use mathlib.Core.List.{_∷_, []};
 ghost use Prim.Native.Nat.{ℕ, _+_, _%_};
+ghost use Rattle.cells.specs.Layout.{columnCount};
 ghost use Rattle.cells.specs.Places.{digitsOf};
 ghost use Rattle.lines.specs.Lines.{columns};
 ghost use Rattle.lines.specs.Text.{pushed, wrote, decimal, hexDigit, hex, values};
@@ -72,13 +74,13 @@ pub(crate) fn push_value(t: Text, digits: u32, v: u32) -> Text
 
 // The sixteen values of a row: eight digits each, four in the BF16 mode.
 pub(crate) fn push_row(t: Text, width: Width, dst: &[u32], row: u32) -> Text
-    ensures { λ r. ⌜ r ≡ wrote t (values (digitsOf width) (columns width (now (dst .entry)) row 0 16)) ⌝ }
+    ensures { λ r. ⌜ r ≡ wrote t (values (digitsOf width) (columns width (now (dst .entry)) row 0 columnCount)) ⌝ }
 {
     let digits = cells::digits(width);
-    let first = row as usize * 16;
+    let first = row as usize * COLUMNS;
     let mut out = t;
     let mut k = 0;
-    while k < 16 {
+    while k < COLUMNS {
         out = push_value(out, digits, cells::read(width, dst, first + k));
         k += 1;
     }

@@ -71,12 +71,12 @@ walk job fs h = checkFrom job fs (h .control) (h .marked) (h .count)
 
 -- d₀ are Dst's marks at the start, d those here
 pub record Checking (job : List ℕ) (d₀ a b d r : List Bool) (c : Control) (n at : ℕ) : Type 0 where
-  pub reached : Reached (walk job) job (hand start (unsetBut d₀) 0) at (hand c (marks a b d r) n)
+  pub reached : Reached (walk job) job 0 (hand start (unsetBut d₀) 0) at (hand c (marks a b d r) n)
   pub long : length d ≡ length d₀
   pub few : n ≤ at
 
 pub checking-first : (job : List ℕ) (d : List Bool) (c : Control) (a b r : List Bool) → c ≡ start → marks a b d r ≡ unsetBut d → Checking job d a b d r c 0 0
-checking-first job d c a b r e m = record { reached = rw (e, m) (reached-first (walk job) job (hand start (unsetBut d) 0)); long = refl; few = omega arith }
+checking-first job d c a b r e m = record { reached = rw (e, m) (reached-first (walk job) job 0 (hand start (unsetBut d) 0)); long = refl; few = omega arith }
 
 module _ (job : List ℕ) (d₀ a b d r : List Bool) (c : Control) (n at : ℕ) (t : Checking job d₀ a b d r c n at) where
   pub checking-end : length job ≤ at → Passed n ≡ checkFrom job (fieldsFrom job 0) start (unsetBut d₀) 0

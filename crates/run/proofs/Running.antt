@@ -62,12 +62,12 @@ abbrev walk : List ℕ → List Field → Hand → Ran
 walk job fs h = execute job fs (h .control) (h .lent) (h .count)
 
 pub record Running (job : List ℕ) (s₀ : State) (c : Control) (at n : ℕ) (s : State) : Type 0 where
-  pub reached : Reached (walk job) job (hand start s₀ 0) at (hand c s n)
+  pub reached : Reached (walk job) job 0 (hand start s₀ 0) at (hand c s n)
   pub size : Sizes s
   pub few : n ≤ at
 
 pub running-first : (job : List ℕ) (s : State) (c : Control) → Sizes s → c ≡ start → Running job s c 0 0 s
-running-first job s c z e = record { reached = rw e (reached-first (walk job) job (hand start s 0)); size = z; few = omega arith }
+running-first job s c z e = record { reached = rw e (reached-first (walk job) job 0 (hand start s 0)); size = z; few = omega arith }
 
 -- what the walk answers and leaves
 abbrev Left : List ℕ → State → Outcome → State → Type 0

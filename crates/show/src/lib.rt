@@ -36,7 +36,7 @@ pub fn put_outcome(job: &[u8], outcome: Outcome, dst: &[u32], registers: &[u32])
             put_lines(job, dst, registers);
         }
         Outcome::Refused(refusal, place) => {
-            put(lines::refused_text(word::number(refusal), place));
+            put(lines::refused_text(refusal, place));
         }
     }
 }

@@ -3,10 +3,10 @@
 ghost use Prim.Native.Nat.{_<_};
 
 fn run_job(job: &[u8]) {
-    let mut srca = [0u32; 2048];
-    let mut srcb = [0u32; 2048];
-    let mut dst = [0u32; 8192];
-    let mut registers = [0u32; 192];
+    let mut srca = [0u32; cells::SRC_NUMBERS];
+    let mut srcb = [0u32; cells::SRC_NUMBERS];
+    let mut dst = [0u32; cells::DST_NUMBERS];
+    let mut registers = [0u32; cells::REGISTERS];
     let outcome = run::run(job, &mut srca, &mut srcb, &mut dst, &mut registers);
     show::put_outcome(job, outcome, &dst, &registers);
 }
@@ -51,7 +51,7 @@ fn run_next(index: u64) -> bool {
     if io::read_full(0, &mut head) < 2 {
         return false;
     }
-    let mut space = [0u8; 8193];
+    let mut space = [0u8; cells::JOB_BYTES + 1];
     run_first(index, length_of(&head), &mut space)
 }
 

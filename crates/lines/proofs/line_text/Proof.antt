@@ -59,17 +59,11 @@ cast-push-decimal-3 c = search needs
 push-decimal-requires-3 : tie.Need-push-decimal-requires-3
 push-decimal-requires-3 c κs = search needs
 
+register-at-requires : tie.Need-register-at-requires
+register-at-requires c κs = search needs
+
 cast-at : tie.Need-cast-at
 cast-at c = search needs
-
-mul-at : tie.Need-mul-at
-mul-at c = search needs
-
-cast-at-2 : tie.Need-cast-at-2
-cast-at-2 c = search needs
-
-add-at : tie.Need-add-at
-add-at c = search needs
 
 read-requires : tie.Need-read-requires
 read-requires c κs = search needs
@@ -87,9 +81,9 @@ returns c = rw (c .before .before .before .before .before .before .before .what 
 
 returns-2 : tie.Need-returns-2
 unfolding lineOf getAt
-returns-2 c = let known = c .before .before .before .before .before .before .before .before .before .known-told2 .given in
-    rw (c .before .before .before .before .before .before .before .before .before .before .what2 .given .1) (value-text _ _ _ _ (omega (arith, known)) (omega (arith, known))
-    ((c .push3 .ensures) ∙ rw ((c .before .push-value .ensures), (c .before .before .read .ensures), (c .before .before .before .push-decimal3 .ensures), (c .before .before .before .before .push2 .ensures), (c .before .before .before .before .before .push-decimal2 .ensures), (c .before .before .before .before .before .before .push-word2 .ensures), (c .before .before .before .before .before .before .before .before .empty2 .ensures))))
+returns-2 c = let known = c .before .before .before .before .before .before .before .before .before .before .known-told2 .given in
+    rw (c .before .before .before .before .before .before .before .before .before .before .before .what2 .given .1) (value-text _ _ _ _ (omega (arith, known)) (omega (arith, known))
+    ((c .push3 .ensures) ∙ rw ((c .before .push-value .ensures), (c .before .before .read .ensures), (c .before .before .before .register-at .ensures), (c .before .before .before .before .push-decimal3 .ensures), (c .before .before .before .before .before .push2 .ensures), (c .before .before .before .before .before .before .push-decimal2 .ensures), (c .before .before .before .before .before .before .before .push-word2 .ensures), (c .before .before .before .before .before .before .before .before .before .empty2 .ensures))))
 
 pub line-text-spec : {M : Type 1} → statement M
 line-text-spec =
@@ -112,10 +106,8 @@ line-text-spec =
     push-requires-2
     cast-push-decimal-3
     push-decimal-requires-3
+    register-at-requires
     cast-at
-    mul-at
-    cast-at-2
-    add-at
     read-requires
     push-value-requires
     push-requires-3

@@ -1,11 +1,14 @@
--- `lines::refused_text` meets its contract: a word and a number, twice. Assumes nothing.
-use Rattle.lines.proofs.Texts.{numbers-text}
-use Rattle.lines.specs.Text.{wordRefused, wordAt, refusedText}
-use native.Mathlib.Omega.{arith}
+-- `lines::refused_text` meets its contract. Assumes nothing.
 use mathlib.Core.Path.{_∙_}
+use native.Mathlib.Omega.{arith}
+use Rattle.lines.specs.Text.{wordRefused, wordAt, refusedText}
+use Rattle.lines.proofs.Texts.{numbers-text}
 use borrow.Author.Needs.{needs}
 use Rattle.lines.proofs.refused_text.Statement.{statement}
 use Rattle.lines.proofs.refused_text.Tie as tie
+
+number-requires : tie.Need-number-requires
+number-requires c κs = search needs
 
 empty-requires : tie.Need-empty-requires
 empty-requires c κs = search needs
@@ -15,6 +18,9 @@ slice-aggregate-push-word c = search needs
 
 push-word-requires : tie.Need-push-word-requires
 push-word-requires c κs = search needs
+
+cast-push-decimal : tie.Need-cast-push-decimal
+cast-push-decimal c = search needs
 
 push-decimal-requires : tie.Need-push-decimal-requires
 push-decimal-requires c κs = search needs
@@ -33,16 +39,18 @@ push-requires c κs = search needs
 
 returns : tie.Need-returns
 unfolding refusedText
-returns c = numbers-text _ wordRefused _ (omega arith) wordAt _ (omega arith) (omega arith) (omega arith)
-    ((c .push .ensures) ∙ rw ((c .before .push-decimal2 .ensures), (c .before .before .push-word2 .ensures), (c .before .before .before .before .push-decimal .ensures), (c .before .before .before .before .before .push-word .ensures), (c .before .before .before .before .before .before .before .empty .ensures)))
+returns c = rw (← (c .before .before .before .before .before .before .before .before .number .ensures)) (numbers-text _ wordRefused _ (omega arith) wordAt _ (omega arith) (omega arith) (omega arith)
+    ((c .push .ensures) ∙ rw ((c .before .push-decimal2 .ensures), (c .before .before .push-word2 .ensures), (c .before .before .before .before .push-decimal .ensures), (c .before .before .before .before .before .push-word .ensures), (c .before .before .before .before .before .before .before .empty .ensures))))
 
 pub refused-text-spec : {M : Type 1} → statement M
 refused-text-spec =
     tie.close
     (tie.spec
+    number-requires
     empty-requires
     slice-aggregate-push-word
     push-word-requires
+    cast-push-decimal
     push-decimal-requires
     slice-aggregate-push-word-2
     push-word-requires-2

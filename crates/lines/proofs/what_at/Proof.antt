@@ -1,95 +1,24 @@
--- `lines::what_at` meets its contract: a row of a field's span fits. Assumes nothing.
-use Rattle.lines.proofs.Walk.{rows-few}
+-- `lines::what_at` meets its contract. Assumes nothing.
 use native.Mathlib.Omega.{arith}
+use Rattle.lines.proofs.Cursors.{rows-few}
 use borrow.Author.Needs.{needs}
 use Rattle.lines.proofs.what_at.Statement.{statement}
 use Rattle.lines.proofs.what_at.Tie as tie
 
-enum-told : tie.Need-enum-told
-enum-told c = search needs
+enum-known-output : tie.Need-enum-known-output
+enum-known-output c = search needs
 
-enum-told-2 : tie.Need-enum-told-2
-enum-told-2 c = search needs
+add-t8 : tie.Need-add-t8
+add-t8 c = let p = rw ((c .before .before .output .given) .1) at (c .before .before .before .before .pre) in record { fits = omega (arith, p .0 .inside, p .1, rows-few ((c .before .before .output .given) .0 .0)) }
 
-enum-told-3 : tie.Need-enum-told-3
-enum-told-3 c = search needs
-
-enum-told-4 : tie.Need-enum-told-4
-enum-told-4 c = search needs
-
-enum-told-5 : tie.Need-enum-told-5
-enum-told-5 c = search needs
-
-enum-told-6 : tie.Need-enum-told-6
-enum-told-6 c = search needs
-
-enum-known-kind : tie.Need-enum-known-kind
-enum-known-kind c = search needs
-
-add-t9 : tie.Need-add-t9
-add-t9 c = let p = rw (c .before .before .kind .given .1) at (c .before .before .before .before .pre) in omega (arith, rows-few (c .before .before .kind .given .0 .0))
-
-enum-known-kind-2 : tie.Need-enum-known-kind-2
-enum-known-kind-2 c = search needs
-
-enum-told-7 : tie.Need-enum-told-7
-enum-told-7 c = search needs
-
-enum-told-8 : tie.Need-enum-told-8
-enum-told-8 c = search needs
+enum-known-output-2 : tie.Need-enum-known-output-2
+enum-known-output-2 c = search needs
 
 returns : tie.Need-returns
-returns c = search needs
+returns c = simp ((c .before .before .output .given) .1)
 
 returns-2 : tie.Need-returns-2
-returns-2 c = search needs
-
-returns-3 : tie.Need-returns-3
-returns-3 c = search needs
-
-returns-4 : tie.Need-returns-4
-returns-4 c = search needs
-
-returns-5 : tie.Need-returns-5
-returns-5 c = search needs
-
-returns-6 : tie.Need-returns-6
-returns-6 c = search needs
-
-returns-7 : tie.Need-returns-7
-returns-7 c = rw (c .before .before .kind .given .1)
-
-returns-8 : tie.Need-returns-8
-returns-8 c = rw (c .before .kind2 .given .1)
-
-returns-9 : tie.Need-returns-9
-returns-9 c = search needs
-
-returns-10 : tie.Need-returns-10
-returns-10 c = search needs
+returns-2 c = simp ((c .before .output2 .given) .1)
 
 pub what-at-spec : {M : Type 1} → statement M
-what-at-spec =
-    tie.close
-    (tie.spec
-    enum-told
-    enum-told-2
-    enum-told-3
-    enum-told-4
-    enum-told-5
-    enum-told-6
-    enum-known-kind
-    add-t9
-    enum-known-kind-2
-    enum-told-7
-    enum-told-8
-    returns
-    returns-2
-    returns-3
-    returns-4
-    returns-5
-    returns-6
-    returns-7
-    returns-8
-    returns-9
-    returns-10)
+what-at-spec = tie.close (tie.spec enum-known-output add-t8 enum-known-output-2 returns returns-2)

@@ -1,4 +1,4 @@
-use Rattle.lines.proofs.Walk.{fewer}
+use Rattle.lines.proofs.Cursors.{fewer}
 use Rattle.lines.specs.Cursor.{linesAt}
 use Rattle.cells.specs.State.{state}
 use lib.ListN.{length}

@@ -13,7 +13,7 @@ use Rattle.job.proofs.stages.find_shape.Statement.{statement}
 use Rattle.job.proofs.stages.find_shape.Tie as tie
 
 abbrev Inv-loop : tie.InvT-loop
-Inv-loop job n at₀ stage₀ at stage = Reached (shapeFrom n) job Opening at stage
+Inv-loop job n at₀ stage₀ at stage = Reached (shapeFrom n) job 0 Opening at stage
 
 abbrev μ-loop : tie.MeasureT-loop
 μ-loop job n at₀ stage₀ at stage = length job - at
@@ -23,7 +23,7 @@ unfolding shapeOf
 returns c = simp (lt-leb _ _ (c .if1 .taken))
 
 loop-holds : tie.Need-loop-holds Inv-loop μ-loop
-loop-holds c = reached-first _ _ _
+loop-holds c = reached-first _ _ _ _
 
 field-at-requires : tie.Need-field-at-requires Inv-loop μ-loop
 field-at-requires c κs = search needs
