@@ -1,14 +1,16 @@
 -- Demand 3 and demand 1, and no 7 in the BF16 mode, proved for every list of bytes. Assumes nothing.
 use mathlib.Core.Path.{_≡_, refl, sym, ap, _∙_}
-use mathlib.Core.Bool.{true, false, false≢true}
+use mathlib.Core.Bool.{Bool, true, false, _||_, false≢true}
 use mathlib.Core.List.{List}
 use mathlib.Core.Logic.{_⊎_, inl, inr, _≢_, ⊎-elim}
-use Prim.Native.Nat.{ℕ, zero, suc, _≤_}
+use Prim.Native.Nat.{ℕ, zero, suc}
 use native.Mathlib.Nat.{zero-add}
 use native.Mathlib.Omega.{arith}
+use lib.Dec.{eqb}
 use lib.ListN.{length, getD, replicate}
 use Rattle.cells.specs.declared.Width.{Width}
 use Rattle.cells.specs.declared.Width.the-variants.{Bits32, Bits16}
+use Rattle.cells.specs.Layout.{srcRows, srcNumbers, dstNumbers, registerCount}
 use Rattle.cells.specs.Places.{rowCount}
 use Rattle.cells.proofs.Cells.{split}
 use Rattle.cells.proofs.Same.{Same}
@@ -17,6 +19,7 @@ use Rattle.word.specs.declared.Refusal.{Refusal}
 use Rattle.word.specs.declared.Refusal.the-variants as refusal
 use Rattle.control.specs.Record.{start}
 use Rattle.control.proofs.Kept.{start-kept}
+use Rattle.cells.specs.Tests.{oneOf}
 use Rattle.cells.specs.State.{State, sized}
 use Rattle.cells.proofs.Sizes.{sizes}
 use Rattle.job.specs.Fields.{jobWidth, fieldsFrom}
@@ -29,18 +32,19 @@ use Rattle.precheck.specs.Marks.{unsetBut, unset}
 use Rattle.precheck.specs.Check.{precheckOf}
 use Rattle.precheck.specs.declared.Checked.{Checked}
 use Rattle.precheck.specs.declared.Checked.the-variants as checked
-use Rattle.precheck.proofs.Walk.{precheck-passed, precheck-right, precheck-wrong}
+use Rattle.precheck.proofs.Checking.{precheck-passed, precheck-right, precheck-wrong}
 use Rattle.run.specs.Run.{Ran, ran, runOf}
-use Rattle.run.proofs.Turns.{run-passed, run-refused, run-unsized}
+use Rattle.run.proofs.Running.{run-passed, run-refused, run-unsized}
 use Rattle.run.specs.declared.Outcome.the-variants.{Finished, Refused}
 use Rattle.lines.specs.Lines.{linesOf}
 use Rattle.demand.specs.Breaks.{FirstBroken, issueFields}
-use Rattle.demand.specs.Demand.{Unbroken, Demand3, Demand1, JobModes}
+use Rattle.demand.specs.Demand.{jobNumbers, runNumbers, Ranks, Unbroken, Demand3, Demand1, JobModes}
 use Rattle.demand.proofs.Agreement.{Agree, byRow, alone}
 use Rattle.demand.proofs.Widths.{first-width, wide}
-use Rattle.demand.proofs.Modes.{none-breaks-seven}
+use Rattle.demand.proofs.Modes.{breaks-same, none-breaks-seven}
 use Rattle.demand.proofs.Passed.{counted, Ended, ended}
 use Rattle.demand.proofs.Refused.{none-breaks, first-breaks}
+use Rattle.demand.proofs.Rules.{ranks}
 use Rattle.demand.proofs.Values.{values-same}
 
 -- ---- at the start all is unset, so any two states of the right sizes agree
@@ -59,11 +63,15 @@ start-agrees w d e p q =
     let s = sizes d p in
     let r = sizes e q in
     record {
-      srca = unset-same Bits32 byRow 128 2048 _ _ (s .srca) (r .srca);
-      srcb = unset-same Bits32 byRow 128 2048 _ _ (s .srcb) (r .srcb);
-      dst = unset-same w byRow (rowCount w) 8192 _ _ (s .dst) (r .dst);
-      registers = unset-same Bits32 alone 192 192 _ _ (s .registers) (r .registers);
+      srca = unset-same Bits32 byRow srcRows srcNumbers _ _ (s .srca) (r .srca);
+      srcb = unset-same Bits32 byRow srcRows srcNumbers _ _ (s .srcb) (r .srcb);
+      dst = unset-same w byRow (rowCount w) dstNumbers _ _ (s .dst) (r .dst);
+      registers = unset-same Bits32 alone registerCount registerCount _ _ (s .registers) (r .registers);
     }
+
+or-right : (a b : Bool) → b ≡ true → (a || b) ≡ true
+or-right true b h = refl
+or-right false b h = h
 
 -- ---- the answer of the pre-check, and that of the run by it
 
@@ -76,7 +84,7 @@ module _ (job : List ℕ) where
       rw (run-passed job s p n e, run-passed job t q n e)
       (ended job (fieldsFrom job 0) start (unset (jobWidth job)) s t 0 n (sound job 0) (wide job (x .0)) start-kept (x .1) (start-agrees (jobWidth job) s t p q))
 
-  found : shapeOf job ≡ Right → (r : Refusal) (p : ℕ) → precheckOf job ≡ checked.Refused r p → FirstBroken job start (unset (jobWidth job)) (fieldsFrom job 0) (numberOf r) p
+  found : shapeOf job ≡ Right → (r : Refusal) (p : ℕ) → precheckOf job ≡ checked.Refused r p → FirstBroken job start (unset (jobWidth job)) (fieldsFrom job 0) r p
   found w r p e = first-breaks job (fieldsFrom job 0) start (unset (jobWidth job)) 0 r p (sym (precheck-right job w) ∙ e) .0
 
   passes : shapeOf job ≡ Right → Unbroken job → precheckOf job ≡ checked.Passed (issueFields (fieldsFrom job 0))
@@ -84,7 +92,7 @@ module _ (job : List ℕ) where
     where
       go : (x : Checked) → precheckOf job ≡ x → x ≡ checked.Passed (issueFields (fieldsFrom job 0))
       go (checked.Passed n) e = ap checked.Passed (counted job (fieldsFrom job 0) start (unset (jobWidth job)) 0 n (precheck-passed job n e .1) ∙ zero-add _)
-      go (checked.Refused r p) e = let b = found w r p e in absurd (false≢true (sym (h (b .index) (numberOf r)) ∙ b .breaking))
+      go (checked.Refused r p) e = let b = found w r p e in absurd (false≢true (sym (h (b .index) r) ∙ b .breaking))
 
   finishes : (n : ℕ) → precheckOf job ≡ checked.Passed n → (s : State) → sized s ≡ true → runOf job s .outcome ≡ Finished (issueFields (fieldsFrom job 0))
   finishes n e s p = both-end n e s s p p .finished ∙ ap Finished (zero-add _)
@@ -94,15 +102,15 @@ module _ (job : List ℕ) where
   prints n e s t p q = both-end n e s t p q .lines
 
   -- a job that the pre-check turns down gets one of 1 to 8
-  tabled : (r : Refusal) (p : ℕ) → precheckOf job ≡ checked.Refused r p → numberOf r ≤ 8
+  tabled : (r : Refusal) (p : ℕ) → precheckOf job ≡ checked.Refused r p → oneOf (numberOf r) jobNumbers ≡ true
   tabled r p e = go (shapeOf job) refl
     where
-      go : (w : Shape) → shapeOf job ≡ w → numberOf r ≤ 8
-      go Right w = omega (arith, first-breaks job (fieldsFrom job 0) start (unset (jobWidth job)) 0 r p (sym (precheck-right job w) ∙ e) .1)
+      go : (w : Shape) → shapeOf job ≡ w → oneOf (numberOf r) jobNumbers ≡ true
+      go Right w = or-right (eqb (numberOf r) 1) _ (first-breaks job (fieldsFrom job 0) start (unset (jobWidth job)) 0 r p (sym (precheck-right job w) ∙ e) .1)
       go (WrongAt q) w =
           let x = sym (precheck-wrong job q w) ∙ e in
           let y : refusal.Shape ≡ r = cc in
-          omega (arith, ap numberOf y)
+          rw (← y)
 
   pub demand3 : Demand3 job
   demand3 =
@@ -153,7 +161,7 @@ module _ (job : List ℕ) where
         record {
           unsized = run-unsized job s;
           kept = λ r p o. refused r p o .0;
-          tabled = λ r p o. ⊎-elim (λ q. omega (arith, q)) (λ e. omega (arith, tabled r p e)) (refused r p o .1);
+          tabled = λ r p o. ⊎-elim (λ q. rw q) (λ e. or-right (eqb (numberOf r) 9) _ (tabled r p e)) (refused r p o .1);
         }
 
   -- ---- the BF16 mode
@@ -164,7 +172,7 @@ module _ (job : List ℕ) where
       go : (w : Shape) → shapeOf job ≡ w → ⊥
       go Right w =
           let b = found w r p e in
-          false≢true (sym (none-breaks-seven job q (fieldsFrom job 0) start (unset (jobWidth job)) (wide job w) (b .index)) ∙ rw z at (b .breaking))
+          false≢true (sym (none-breaks-seven job q (fieldsFrom job 0) start (unset (jobWidth job)) (wide job w) (b .index)) ∙ sym (breaks-same r refusal.DstRow z job start (unset (jobWidth job)) (fieldsFrom job 0) (b .index)) ∙ b .breaking)
       go (WrongAt y) w =
           let x = sym (precheck-wrong job y w) ∙ e in
           let k : refusal.Shape ≡ r = cc in
@@ -177,3 +185,8 @@ module _ (job : List ℕ) where
         check = check-modes;
         run = λ q s r p o. ⊎-elim (λ n z. omega (arith, n, z)) (check-modes q r p) (refused s r p o .1);
       }
+
+-- ---- ranks and numbers
+
+pub ranked : (r : Refusal) → Ranks r
+ranked = ranks

@@ -1,8 +1,8 @@
 -- The proofs of demand 3, of demand 1 and of what the two Dst modes leave.
 mod Rules
-mod Kept
+mod MarksStay
 mod Agreement
-mod Fields
+mod FieldAgrees
 mod Lines
 mod Widths
 mod Passed

@@ -11,18 +11,20 @@ use Rattle.cells.proofs.Cells.{between-in}
 use Rattle.cells.proofs.Same.{Same, number-same}
 use Rattle.word.specs.declared.Refusal.the-variants.{UnsetRead}
 use Rattle.control.specs.declared.Control.{Control}
-use Rattle.cells.specs.Layout.{register, oneRegister}
+use Rattle.cells.specs.Layout.{dstNumbers, registerCount, register, oneRegister}
 use Rattle.rules.specs.Rules.{lowest}
 use Rattle.rules.specs.declared.Verdict.the-variants.{Done}
 use Rattle.cells.specs.State.{State}
+use Rattle.job.specs.declared.Output.{Output}
+use Rattle.job.specs.declared.Output.the-variants.{Rows, Register}
 use Rattle.job.specs.declared.Kind.{Kind}
 use Rattle.job.specs.declared.Kind.the-variants as kind
-use Rattle.job.proofs.Says.{Says}
+use Rattle.job.proofs.Says.{OutputSays, Says}
 use Rattle.precheck.specs.Marks.{Marks, allSet}
-use Rattle.precheck.specs.Fields.{fieldRules}
-use Rattle.lines.specs.Lines.{row, value, columns, rowLines, fieldLines}
+use Rattle.precheck.specs.Judging.{outputRules, fieldRules}
+use Rattle.lines.specs.Lines.{row, value, columns, rowLines, outputLines, fieldLines}
 use Rattle.demand.proofs.Rules.{alone-done}
-use Rattle.demand.proofs.Kept.{Stays}
+use Rattle.demand.proofs.MarksStay.{Stays}
 use Rattle.demand.proofs.Agreement.{Agree, byRow, alone, set-at, one-set, cell-same}
 
 module _ (w : Width) (n : ℕ) (m : List Bool) (d e : List ℕ) (s : Same w byRow n m d e) where
@@ -39,23 +41,25 @@ module _ (w : Width) (n : ℕ) (m : List Bool) (d e : List ℕ) (s : Same w byRo
       λ i. row w first (columns-same first 0 16 (omega arith) (h first (omega arith) (omega arith)) i)
       ∷ rows-same (suc first) count (λ r a b. h r (omega arith) (omega arith)) i
 
--- a field that breaks no rule under the marks m prints the same under any marks n that m stays in
+-- an output that breaks no rule under the marks m prints the same under any marks n that m stays in
+output-same : (w : Width) (m n : Marks) (o : Output) (d e : State) → OutputSays w o → lowest (outputRules m o) ≡ Done → Stays m n → Agree w n d e
+    → outputLines o d ≡ outputLines o e
+unfolding outputLines
+output-same w m n (Rows v rows) d e i h z s =
+    let set = not-false _ (alone-done UnsetRead (not (allSet (m .dst) rows)) h) in
+    rw (i .1)
+    (rows-same w dstNumbers (n .dst) (d .dst) (e .dst) (s .dst) (rows .first) (rows .count)
+    (λ r a b. z .dst r (set-at (m .dst) rows r set (between-in (rows .first) (rows .first + rows .count) r a b))))
+output-same w m n (Register t r) d e i h z s =
+    let set = not-false _ (alone-done UnsetRead (not (allSet (m .registers) (oneRegister t r))) h) in
+    λ j. value t r (number-same alone registerCount (n .registers) (d .registers) (e .registers) (s .registers) (register t r) (z .registers (register t r) (one-set (m .registers) (register t r) set)) j) ∷ []
+
 pub lines-same : (w : Width) (tag : ℕ) (p : List ℕ) (c : Control) (m n : Marks) (k : Kind) (d e : State) → Says w tag p k → lowest (fieldRules c m k) ≡ Done → Stays m n → Agree w n d e
     → fieldLines k d ≡ fieldLines k e
 unfolding fieldLines fieldRules
 lines-same w tag p c m n kind.Settings d e i h z s = refl
-lines-same w tag p c m n (kind.LoadSrc file rows) d e i h z s = refl
-lines-same w tag p c m n (kind.LoadDst v rows) d e i h z s = refl
-lines-same w tag p c m n (kind.LoadRegister t r) d e i h z s = refl
-lines-same w tag p c m n (kind.HandOver file) d e i h z s = refl
 lines-same w tag p c m n (kind.Issue t x) d e i h z s = refl
-lines-same w tag p c m n (kind.OutputRows v rows) d e i h z s =
-    let set = not-false _ (alone-done UnsetRead (not (allSet (m .dst) rows)) h) in
-    rw (i .1)
-    (rows-same w 8192 (n .dst) (d .dst) (e .dst) (s .dst) (rows .first) (rows .count)
-    (λ r a b. z .dst r (set-at (m .dst) rows r set (between-in (rows .first) (rows .first + rows .count) r a b))))
-lines-same w tag p c m n (kind.OutputRegister t r) d e i h z s =
-    let set = not-false _ (alone-done UnsetRead (not (allSet (m .registers) (oneRegister t r))) h) in
-    λ j. value t r (number-same alone 192 (n .registers) (d .registers) (e .registers) (s .registers) (register t r) (z .registers (register t r) (one-set (m .registers) (register t r) set)) j) ∷ []
-lines-same w tag p c m n (kind.ZeroRows v rows) d e i h z s = refl
-lines-same w tag p c m n kind.Wrong d e i h z s = refl
+lines-same w tag p c m n (kind.HandOver file) d e i h z s = refl
+lines-same w tag p c m n (kind.Writes x) d e i h z s = refl
+lines-same w tag p c m n (kind.Prints o) d e i h z s = output-same w m n o d e i h z s
+lines-same w tag p c m n (kind.Wrong x) d e i h z s = refl

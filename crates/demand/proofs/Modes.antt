@@ -12,21 +12,30 @@ use Rattle.cells.specs.declared.Width.the-variants.{Bits32, Bits16}
 use Rattle.cells.specs.Places.{rowCount}
 use Rattle.cells.proofs.Cells.{split, both}
 use Rattle.word.specs.Word.{wordOperands}
+use Rattle.word.specs.Refusal.{numberOf}
+use Rattle.word.specs.declared.Refusal.{Refusal}
+use Rattle.word.specs.declared.Refusal.the-variants.{UnmodelledSettings, DstRow}
 use Rattle.word.specs.declared.Operands.{Operands}
 use Rattle.word.specs.declared.Operands.the-variants as operands
 use Rattle.control.specs.declared.Control.{Control}
 use Rattle.control.specs.declared.Settings.{Settings}
 use Rattle.control.specs.Record.{bf16Mode, widthOf}
 use Rattle.rules.specs.Rows.{rowDst}
-use Rattle.rules.specs.Rules.{rules, fp32Mode, unmodelled, rowWrong, operandRules as wordRules}
+use Rattle.rules.specs.Rules.{Judged, rules, fp32Mode, unmodelled, rowWrong, operandRules as wordRules}
 use Rattle.rules.proofs.Places.{row-dst-below}
 use Rattle.job.specs.Fields.{jobWidth}
+use Rattle.job.specs.declared.Write.{Write}
+use Rattle.job.specs.declared.Write.the-variants.{LoadSrc, LoadDst, LoadRegister, ZeroRows}
+use Rattle.job.specs.declared.Output.{Output}
+use Rattle.job.specs.declared.Output.the-variants.{Rows, Register}
 use Rattle.job.specs.declared.Kind.{Kind}
 use Rattle.job.specs.declared.Kind.the-variants as kind
 use Rattle.job.specs.declared.Field.{Field}
 use Rattle.precheck.specs.Marks.{Marks}
-use Rattle.precheck.specs.Fields.{fieldRules, fieldControl, fieldMarks}
-use Rattle.demand.specs.Breaks.{brokenNumber, breaks, isIssue}
+use Rattle.precheck.specs.Judging.{writeRules, outputRules, fieldRules}
+use Rattle.walk.specs.FieldRecord.{fieldControl}
+use Rattle.precheck.specs.Marking.{fieldMarks}
+use Rattle.demand.specs.Breaks.{brokenRule, breaks, isIssue}
 use Rattle.demand.specs.Demand.{InBf16, InFp32, Unmodelled, SettingsModes, WordModes}
 use Rattle.demand.proofs.Steps.{judged, refused-by}
 use Rattle.demand.proofs.Widths.{Wide}
@@ -101,6 +110,19 @@ module _ (c : Control) (w : ℕ) where
   neither operands.NoEffect e h = absurd (false≢true h)
   neither (operands.Scalar s) e h = absurd (false≢true h)
 
+-- ---- a rule goes by its number
+
+rule-same : (q r : Refusal) → numberOf q ≡ numberOf r → (bs : List Judged) → brokenRule q bs ≡ brokenRule r bs
+unfolding brokenRule
+rule-same q r e [] = refl
+rule-same q r e (b ∷ bs) = rw (e, rule-same q r e bs)
+
+pub breaks-same : (q r : Refusal) → numberOf q ≡ numberOf r → (job : List ℕ) (c : Control) (m : Marks) (fs : List Field) (k : ℕ) → breaks job c m fs k q ≡ breaks job c m fs k r
+unfolding breaks
+breaks-same q r e job c m [] k = refl
+breaks-same q r e job c m (f ∷ fs) zero = rule-same q r e (fieldRules c m (f .kind))
+breaks-same q r e job c m (f ∷ fs) (suc k) = breaks-same q r e job (fieldControl job c (f .place) (f .kind)) (fieldMarks c m (f .kind)) fs k
+
 -- ---- no 7 in the BF16 mode: a masked row is below 1,024
 
 row-right : (c : Control) (t : ℕ) (f : Operands) → widthOf (c .settings) ≡ Bits16 → rowWrong c t f ≡ false
@@ -115,21 +137,29 @@ row-right c t operands.NoEffect q = refl
 row-right c t (operands.Scalar s) q = refl
 
 -- the rules of a field
-field-right : (c : Control) (m : Marks) (k : Kind) → (isIssue k ≡ true → widthOf (c .settings) ≡ Bits16) → brokenNumber 7 (fieldRules c m k) ≡ false
-unfolding brokenNumber fieldRules rules wordRules
+write-right : (c : Control) (x : Write) → brokenRule DstRow (writeRules c x) ≡ false
+unfolding brokenRule
+write-right c (LoadSrc file rows) = refl
+write-right c (LoadDst w rows) = refl
+write-right c (LoadRegister t r) = refl
+write-right c (ZeroRows w rows) = refl
+
+output-right : (m : Marks) (o : Output) → brokenRule DstRow (outputRules m o) ≡ false
+unfolding brokenRule
+output-right m (Rows w rows) = refl
+output-right m (Register t r) = refl
+
+field-right : (c : Control) (m : Marks) (k : Kind) → (isIssue k ≡ true → widthOf (c .settings) ≡ Bits16) → brokenRule DstRow (fieldRules c m k) ≡ false
+unfolding brokenRule fieldRules rules wordRules
 field-right c m kind.Settings q = refl
-field-right c m (kind.LoadSrc file rows) q = refl
-field-right c m (kind.LoadDst w rows) q = refl
-field-right c m (kind.LoadRegister t r) q = refl
-field-right c m (kind.HandOver file) q = refl
 field-right c m (kind.Issue t w) q = ap (λ (b : Bool). b || false) (row-right c t (wordOperands w) (q refl))
-field-right c m (kind.OutputRows w rows) q = refl
-field-right c m (kind.OutputRegister t r) q = refl
-field-right c m (kind.ZeroRows w rows) q = refl
-field-right c m kind.Wrong q = refl
+field-right c m (kind.HandOver file) q = refl
+field-right c m (kind.Writes x) q = write-right c x
+field-right c m (kind.Prints o) q = output-right m o
+field-right c m (kind.Wrong x) q = refl
 
 -- and of all fields, where each issue field meets the job's width
-pub none-breaks-seven : (job : List ℕ) → jobWidth job ≡ Bits16 → (fs : List Field) (c : Control) (m : Marks) → Wide job c fs → (k : ℕ) → breaks job c m fs k 7 ≡ false
+pub none-breaks-seven : (job : List ℕ) → jobWidth job ≡ Bits16 → (fs : List Field) (c : Control) (m : Marks) → Wide job c fs → (k : ℕ) → breaks job c m fs k DstRow ≡ false
 unfolding breaks
 none-breaks-seven job q [] c m x k = refl
 none-breaks-seven job q (f ∷ fs) c m x zero = field-right c m (f .kind) (λ i. x .0 i ∙ q)
@@ -138,12 +168,12 @@ none-breaks-seven job q (f ∷ fs) c m x (suc k) = none-breaks-seven job q fs (f
 -- ---- a word
 
 module _ (c : Control) (t w : ℕ) where
-  not-seven : widthOf (c .settings) ≡ Bits16 → brokenNumber 7 (rules c t w) ≡ false
-  unfolding brokenNumber rules wordRules
+  not-seven : widthOf (c .settings) ≡ Bits16 → brokenRule DstRow (rules c t w) ≡ false
+  unfolding brokenRule rules wordRules
   not-seven q = ap (λ (b : Bool). b || false) (row-right c t (wordOperands w) q)
 
   pub word-modes : WordModes c t w
-  unfolding brokenNumber rules wordRules
+  unfolding brokenRule rules wordRules
   word-modes =
       record {
         unmodelled = λ h. neither c w (wordOperands w) refl h;
@@ -151,7 +181,7 @@ module _ (c : Control) (t w : ℕ) where
             ∙ (λ i. not (off (fp32Mode (c .settings)) (in-fp32 (c .settings)) (u .not-fp32) i || off _ (in-bf16 (c .settings)) (u .not-bf16) i) || false);
         not-seven = λ m. not-seven (settings-modes (c .settings) .halves m);
         step = λ m s r e. ⊎-elim
-            (λ j z. false≢true (sym (not-seven (settings-modes (c .settings) .halves m)) ∙ rw z at (judged c t w s r j .broken)))
+            (λ j z. false≢true (sym (not-seven (settings-modes (c .settings) .halves m)) ∙ sym (rule-same r DstRow z (rules c t w)) ∙ judged c t w s r j .broken))
             (⊎-elim (λ o z. omega (arith, o, z)) (λ o z. omega (arith, o, z)))
             (refused-by c t w s r e);
       }

@@ -20,52 +20,40 @@ use Rattle.job.proofs.Shaped.{Sound}
 use Rattle.precheck.specs.Marks.{Marks}
 use Rattle.precheck.specs.declared.Checked.{Checked}
 use Rattle.precheck.specs.declared.Checked.the-variants.{Passed}
-use Rattle.precheck.specs.Fields.{fieldRules, fieldControl, fieldMarks}
-use Rattle.precheck.specs.Check.{issueOf, unlessBroken, checkFrom}
+use Rattle.precheck.specs.Judging.{fieldRules}
+use Rattle.walk.specs.FieldRecord.{fieldControl}
+use Rattle.precheck.specs.Marking.{fieldMarks}
+use Rattle.walk.specs.FieldRecord.{issueOf}
+use Rattle.precheck.specs.Check.{checkFrom}
+use Rattle.precheck.proofs.Checking.{check-passed}
 use Rattle.run.specs.Perform.{performed, stepVerdict}
 use Rattle.run.specs.Run.{Ran, execute}
+use Rattle.run.proofs.Running.{execute-next}
 use Rattle.run.specs.declared.Outcome.the-variants as outcome
 use Rattle.lines.specs.Lines.{linesFrom}
 use Rattle.demand.specs.Breaks.{isIssue, issueFields}
-use Rattle.demand.proofs.Kept.{Stays, stays, stays-on, marks-stay}
-use Rattle.precheck.proofs.Kept.{control-kept}
+use Rattle.demand.proofs.MarksStay.{Stays, stays, stays-on, marks-stay}
+use Rattle.walk.proofs.RecordKept.{control-kept}
 use Rattle.demand.proofs.Agreement.{Agree, swap}
-use Rattle.demand.proofs.Fields.{field-done, field-agrees}
+use Rattle.demand.proofs.FieldAgrees.{field-done, field-agrees}
 use Rattle.demand.proofs.Lines.{lines-same}
 use Rattle.demand.proofs.Widths.{Wide}
-
--- ---- a turn of the walk
-
-passed-on : (v : Verdict) (p q : ℕ) (x : Checked) → unlessBroken v p x ≡ Passed q → (v ≡ verdict.Done) × (x ≡ Passed q)
-passed-on verdict.Done p q x e = (refl, e)
-passed-on (verdict.Refused r) p q x e = absurd (let z : _≡_ {A = ℕ} 0 1 = cc in omega arith)
-
--- the first field breaks no rule, and the walk after it passes
-pub walk-on : (job : List ℕ) (f : Field) (fs : List Field) (c : Control) (m : Marks) (n q : ℕ) → checkFrom job (f ∷ fs) c m n ≡ Passed q
-    → (lowest (fieldRules c m (f .kind)) ≡ verdict.Done)
-    × (checkFrom job fs (fieldControl job c (f .place) (f .kind)) (fieldMarks c m (f .kind)) (n + issueOf (f .kind)) ≡ Passed q)
-unfolding checkFrom
-walk-on job f fs c m n q e = passed-on (lowest (fieldRules c m (f .kind))) (f .place) q _ e
 
 -- ---- the count
 
 count-one : (k : Kind) (n x : ℕ) → n + issueOf k + x ≡ n + cond (isIssue k) (suc x) x
 count-one kind.Settings n x = omega arith
-count-one (kind.LoadSrc file rows) n x = omega arith
-count-one (kind.LoadDst w rows) n x = omega arith
-count-one (kind.LoadRegister t r) n x = omega arith
-count-one (kind.HandOver file) n x = omega arith
 count-one (kind.Issue t w) n x = omega arith
-count-one (kind.OutputRows w rows) n x = omega arith
-count-one (kind.OutputRegister t r) n x = omega arith
-count-one (kind.ZeroRows w rows) n x = omega arith
-count-one kind.Wrong n x = omega arith
+count-one (kind.HandOver file) n x = omega arith
+count-one (kind.Writes y) n x = omega arith
+count-one (kind.Prints o) n x = omega arith
+count-one (kind.Wrong y) n x = omega arith
 
 pub counted : (job : List ℕ) (fs : List Field) (c : Control) (m : Marks) (n q : ℕ) → checkFrom job fs c m n ≡ Passed q → q ≡ n + issueFields fs
 unfolding checkFrom issueFields
 counted job [] c m n q e = let r : n ≡ q = cc in omega arith
 counted job (f ∷ fs) c m n q e =
-    counted job fs (fieldControl job c (f .place) (f .kind)) (fieldMarks c m (f .kind)) (n + issueOf (f .kind)) q (walk-on job f fs c m n q e .1)
+    counted job fs (fieldControl job c (f .place) (f .kind)) (fieldMarks c m (f .kind)) (n + issueOf (f .kind)) q (check-passed job f fs c m n q e .1)
     ∙ count-one (f .kind) n (issueFields fs)
 
 -- ---- the run
@@ -79,12 +67,6 @@ pub record Ended (w : Width) (fs : List Field) (m : Marks) (n : ℕ) (x y : Ran)
   pub agree : Agree w marks (x .state) (y .state)
 
 module _ (job : List ℕ) where
-  -- what the run of the first field leaves
-  run-on : (f : Field) (fs : List Field) (c : Control) (s : State) (n : ℕ) → stepVerdict c (f .kind) s ≡ verdict.Done
-      → execute job (f ∷ fs) c s n ≡ execute job fs (fieldControl job c (f .place) (f .kind)) (performed job c (f .place) (f .kind) s) (n + issueOf (f .kind))
-  unfolding execute
-  run-on f fs c s n e = rw e
-
   pub ended : (fs : List Field) (c : Control) (m : Marks) (d e : State) (n q : ℕ) → EachField (Sound job) fs → Wide job c fs → inRange c ≡ true
       → checkFrom job fs c m n ≡ Passed q → Agree (jobWidth job) m d e → Ended (jobWidth job) fs m n (execute job fs c d n) (execute job fs c e n)
   unfolding execute issueFields linesFrom
@@ -94,12 +76,12 @@ module _ (job : List ℕ) where
       let v = jobWidth job in
       let tag = getD job (f .place) 0 in
       let p = payloadAt job (f .place) in
-      let y = walk-on job f fs c m n q h in
+      let y = check-passed job f fs c m n q h in
       let i =
       ended fs (fieldControl job c (f .place) k) (fieldMarks c m k) (performed job c (f .place) k d) (performed job c (f .place) k e) (n + issueOf k) q (w .1) (x .1)
       (control-kept job c f r (w .0)) (y .1) (field-agrees c m r v d e s tag p job (f .place) k (w .0 .says) (x .0) (y .0)) in
       let st = stays-on m (fieldMarks c m k) (i .marks) (marks-stay c m k) (i .stay) in
-      rw (run-on f fs c d n (field-done c m r v d e s tag p k (w .0 .says) (y .0)), run-on f fs c e n (field-done c m r v e d (swap v m d e s) tag p k (w .0 .says) (y .0)))
+      rw (execute-next job f fs c d n (field-done c m r v d e s tag p k (w .0 .says) (y .0)), execute-next job f fs c e n (field-done c m r v e d (swap v m d e s) tag p k (w .0 .says) (y .0)))
       (record {
         finished = i .finished ∙ ap outcome.Finished (count-one k n (issueFields fs));
         lines = ap₂ _++_ (lines-same v tag p c m (i .marks) k _ _ (w .0 .says) (y .0) st (i .agree)) (i .lines);

@@ -14,16 +14,17 @@ use Rattle.cells.proofs.Cells.{split}
 use Rattle.control.specs.declared.Control.{Control}
 use Rattle.control.specs.Record.{start, widthOf}
 use Rattle.job.specs.Bytes.{le2}
-use Rattle.job.specs.Fields.{payloadAt, jobWidth, fieldAt, fieldsFrom}
-use Rattle.job.specs.Settings.{settled}
+use Rattle.job.specs.Fields.{payloadAt, jobWidth, fieldAt, fieldsFrom, EachField}
+use Rattle.job.specs.Settings.{settingsBytes, settled}
 use Rattle.job.specs.Shape.{shapeOf}
 use Rattle.job.specs.declared.Field.{Field}
 use Rattle.job.specs.declared.Shape.the-variants.{Right}
 use Rattle.job.proofs.Walk.{place-at, fields-step, fields-end}
-use Rattle.job.proofs.Shaped.{Outputs, Acts, Ordered, sound-at, shaped}
+use Rattle.job.specs.declared.Kind.the-variants.{Settings}
+use Rattle.job.proofs.Shaped.{Ordered, NotSettings, some-field, opens, once, sound-at, shaped}
 use Rattle.job.proofs.Settled.{settings-field, settled-width}
-use Rattle.precheck.specs.Fields.{fieldControl}
-use Rattle.precheck.proofs.Kept.{settings-kept}
+use Rattle.walk.specs.FieldRecord.{fieldControl}
+use Rattle.walk.proofs.RecordKept.{settings-stay}
 use Rattle.demand.specs.Breaks.{isIssue}
 
 module _ (job : List ℕ) where
@@ -33,41 +34,36 @@ module _ (job : List ℕ) where
   Wide c (f ∷ fs) = (isIssue (f .kind) ≡ true → widthOf (c .settings) ≡ jobWidth job) × Wide (fieldControl job c (f .place) (f .kind)) fs
 
   -- fields that leave the settings
-  outputs-wide : (fs : List Field) (c : Control) → widthOf (c .settings) ≡ jobWidth job → Outputs fs → Wide c fs
-  outputs-wide [] c h o = tt
-  outputs-wide (f ∷ fs) c h o = (λ i. h, outputs-wide fs _ (ap widthOf (settings-kept job c (f .place) (f .kind) 1 (o .0)) ∙ h) (o .1))
-
-  acts-wide : (fs : List Field) (c : Control) → widthOf (c .settings) ≡ jobWidth job → Acts fs → Wide c fs
-  acts-wide [] c h a = tt
-  acts-wide (f ∷ fs) c h a = (
-    λ i. h,
-    ⊎-elim
-        (λ x. acts-wide fs _ (ap widthOf (settings-kept job c (f .place) (f .kind) 0 (x .0)) ∙ h) (x .1))
-        (λ x. outputs-wide fs _ (ap widthOf (settings-kept job c (f .place) (f .kind) 1 (x .0)) ∙ h) (x .1))
-        a,
-  )
+  stay-wide : (fs : List Field) (c : Control) → widthOf (c .settings) ≡ jobWidth job → EachField NotSettings fs → Wide c fs
+  stay-wide [] c h o = tt
+  stay-wide (f ∷ fs) c h o = (λ i. h, stay-wide fs _ (ap widthOf (settings-stay job c (f .place) (f .kind) (o .0)) ∙ h) (o .1))
 
   -- the first field of a right shape is the settings, at place 0
   module _ (r : shapeOf job ≡ Right) where
     some : 0 < length job
     some =
         split (ltb 0 (length job)) (λ b. ltb-true 0 (length job) b)
-        (λ b. let none : Ordered [] = rw (fields-end job 0 (ltb-false 0 (length job) b)) at (shaped job r .order) in absurd none)
+        (λ b. absurd (some-field (rw (fields-end job 0 (ltb-false 0 (length job) b)) at (shaped job r .order))))
 
     order : Ordered (fieldAt job 0 ∷ fieldsFrom job (fieldAt job 0 .next))
     order = rw (fields-step job 0 some) at (shaped job r .order)
 
+    first : fieldAt job 0 .kind ≡ Settings
+    first = opens (fieldAt job 0) (fieldsFrom job (fieldAt job 0 .next)) order
+
     pub first-width : jobWidth job ≡ widthOf (settled start (payloadAt job 0) .settings)
     first-width =
-        let long : length (payloadAt job 0) ≡ 160 = rw (place-at job 0) at (settings-field job (fieldAt job 0) (sound-at job 0 some) (order .0) .long) in
+        let long : length (payloadAt job 0) ≡ settingsBytes = rw (place-at job 0) at (settings-field job (fieldAt job 0) (sound-at job 0 some) first .long) in
         let most : length (payloadAt job 0) ≤ le2 job 1 = rw length-take (min-le-left (le2 job 1) (length (drop 3 job))) in
         sym (settled-width start job (omega arith))
 
     settles : widthOf (fieldControl job start (fieldAt job 0 .place) (fieldAt job 0 .kind) .settings) ≡ jobWidth job
     unfolding fieldControl
-    settles = rw (place-at job 0, order .0) (sym first-width)
+    settles =
+        rw (first, settings-field job (fieldAt job 0) (sound-at job 0 some) first .settles start, place-at job 0) (sym first-width)
 
     pub wide : Wide start (fieldsFrom job 0)
     wide =
         let f = fieldAt job 0 in
-        rw (fields-step job 0 some) (λ i. absurd (false≢true (rw (order .0) at i)), acts-wide (fieldsFrom job (f .next)) (fieldControl job start (f .place) (f .kind)) settles (order .1))
+        rw (fields-step job 0 some)
+        (λ i. absurd (false≢true (rw first at i)), stay-wide (fieldsFrom job (f .next)) (fieldControl job start (f .place) (f .kind)) settles (once f (fieldsFrom job (f .next)) order))

@@ -2,22 +2,23 @@
 -- which numbers the two Dst modes leave. Definitions only.
 use mathlib.Core.Path.{_≡_}
 use mathlib.Core.Bool.{true, false}
-use mathlib.Core.List.{List}
+use mathlib.Core.List.{List, [], _∷_}
 use mathlib.Core.Logic.{_⊎_, _≢_}
-use Prim.Native.Nat.{ℕ, _≤_, _<_}
+use Prim.Native.Nat.{ℕ, _<_}
 use Rattle.cells.specs.declared.Width.the-variants.{Bits16}
-use Rattle.word.specs.Refusal.{numberOf}
+use Rattle.word.specs.Refusal.{numberOf, rankOf}
 use Rattle.word.specs.Word.{wordOperands}
 use Rattle.word.specs.declared.Multiply.{Multiply}
 use Rattle.word.specs.declared.Operands.the-variants as operands
 use Rattle.word.specs.declared.Refusal.{Refusal}
-use Rattle.word.specs.declared.Refusal.the-variants.{Shape, StateLength}
+use Rattle.word.specs.declared.Refusal.the-variants.{Shape, StateLength, UnmodelledSettings, DstRow}
 use Rattle.control.specs.declared.Control.{Control}
 use Rattle.control.specs.declared.Settings.{Settings}
 use Rattle.control.specs.Record.{start, widthOf}
 use Rattle.rules.specs.Rules.{rules, judgement}
 use Rattle.rules.specs.declared.Verdict.the-variants as verdict
 use Rattle.cells.specs.State.{State, sized}
+use Rattle.cells.specs.Tests.{oneOf}
 use Rattle.step.specs.Step.{verdictOf, steppedOf, stateOf}
 use Rattle.job.specs.Fields.{payloadAt, jobWidth, fieldsFrom}
 use Rattle.job.specs.Settings.{settled}
@@ -30,11 +31,32 @@ use Rattle.precheck.specs.declared.Checked.the-variants as checked
 use Rattle.run.specs.Run.{ran, runOf}
 use Rattle.lines.specs.Lines.{linesOf}
 use Rattle.run.specs.declared.Outcome.the-variants.{Finished, Refused}
-use Rattle.demand.specs.Breaks.{brokenNumber, breaks, FirstBroken, issueFields}
+use Rattle.demand.specs.Breaks.{brokenRule, breaks, FirstBroken, issueFields}
+
+-- ---- the numbers of the table
+
+-- those that a field can break, in the order in which they are judged; that a pre-check gives; that a run gives; that a single step gives
+abbrev pub fieldNumbers : List ℕ
+fieldNumbers = 2 ∷ 3 ∷ 4 ∷ 5 ∷ 6 ∷ 7 ∷ 8 ∷ []
+
+abbrev pub jobNumbers : List ℕ
+jobNumbers = 1 ∷ fieldNumbers
+
+abbrev pub runNumbers : List ℕ
+runNumbers = 9 ∷ jobNumbers
+
+abbrev pub stepNumbers : List ℕ
+stepNumbers = 9 ∷ 1 ∷ 2 ∷ 3 ∷ 4 ∷ 5 ∷ 6 ∷ 7 ∷ []
+
+-- what is judged first has the lowest number: 2 to 8 are their own ranks
+pub record Ranks (r : Refusal) : Type 0 where
+  pub rank : oneOf (numberOf r) fieldNumbers ≡ true → rankOf r ≡ numberOf r
+
+-- ---- demand 3
 
 -- no field of the job breaks a rule; at the start each row that its Dst has is unset
 abbrev pub Unbroken : List ℕ → Type 0
-Unbroken job = (k n : ℕ) → breaks job start (unset (jobWidth job)) (fieldsFrom job 0) k n ≡ false
+Unbroken job = (k : ℕ) (r : Refusal) → breaks job start (unset (jobWidth job)) (fieldsFrom job 0) k r ≡ false
 
 pub record Demand3 (job : List ℕ) : Type 0 where
   -- a job passes exactly when its shape is right and no field breaks a rule
@@ -50,9 +72,9 @@ pub record Demand3 (job : List ℕ) : Type 0 where
   -- a job turned down is named by its first wrong place with number 1, or by its first field that breaks a rule with its lowest number
   pub misshapen : (p : ℕ) → shapeOf job ≡ WrongAt p → precheckOf job ≡ checked.Refused Shape p
   pub found : shapeOf job ≡ Right → (r : Refusal) (p : ℕ) → precheckOf job ≡ checked.Refused r p
-      → FirstBroken job start (unset (jobWidth job)) (fieldsFrom job 0) (numberOf r) p
+      → FirstBroken job start (unset (jobWidth job)) (fieldsFrom job 0) r p
   -- with one of the numbers 1 to 8
-  pub named : (r : Refusal) (p : ℕ) → precheckOf job ≡ checked.Refused r p → numberOf r ≤ 8
+  pub named : (r : Refusal) (p : ℕ) → precheckOf job ≡ checked.Refused r p → oneOf (numberOf r) jobNumbers ≡ true
   -- and a run over any state of the right sizes refuses it with the same number and place, and leaves the state
   pub refuses : (r : Refusal) (p : ℕ) → precheckOf job ≡ checked.Refused r p → (s : State) → sized s ≡ true → runOf job s ≡ ran (Refused r p) s
   -- other permitted values in the load fields (where the shape is wrong, in those before its first wrong place) leave the answer as it is
@@ -64,17 +86,17 @@ pub record Demand3 (job : List ℕ) : Type 0 where
 pub record Demand1 (job : List ℕ) (s : State) : Type 0 where
   pub unsized : sized s ≡ false → runOf job s ≡ ran (Refused StateLength 0) s
   pub kept : (r : Refusal) (p : ℕ) → runOf job s .outcome ≡ Refused r p → runOf job s .state ≡ s
-  pub tabled : (r : Refusal) (p : ℕ) → runOf job s .outcome ≡ Refused r p → numberOf r ≤ 9
+  pub tabled : (r : Refusal) (p : ℕ) → runOf job s .outcome ≡ Refused r p → oneOf (numberOf r) runNumbers ≡ true
 
 -- the single step, over any record, thread, word and state: 1 to 7 or 9, and the record as it came
 pub record StepDemand1 (c : Control) (t w : ℕ) (s : State) : Type 0 where
   pub kept : (r : Refusal) → verdictOf c t w s ≡ verdict.Refused r → stateOf c t w s ≡ s
   pub record-kept : (r : Refusal) → verdictOf c t w s ≡ verdict.Refused r → steppedOf c t w s .control ≡ c
-  pub tabled : (r : Refusal) → verdictOf c t w s ≡ verdict.Refused r → (numberOf r ≤ 7) ⊎ (numberOf r ≡ 9)
-  -- among the rules 2 to 7 the lowest number counts, and a step is done where none is broken
-  pub broken : (r : Refusal) → judgement c t w ≡ verdict.Refused r → brokenNumber (numberOf r) (rules c t w) ≡ true
-  pub lowest : (r : Refusal) → judgement c t w ≡ verdict.Refused r → (j : ℕ) → j < numberOf r → brokenNumber j (rules c t w) ≡ false
-  pub unbroken : judgement c t w ≡ verdict.Done → (j : ℕ) → brokenNumber j (rules c t w) ≡ false
+  pub tabled : (r : Refusal) → verdictOf c t w s ≡ verdict.Refused r → oneOf (numberOf r) stepNumbers ≡ true
+  -- among the rules 2 to 7 the first in rank counts, which has the lowest number, and a step is done where none is broken
+  pub broken : (r : Refusal) → judgement c t w ≡ verdict.Refused r → brokenRule r (rules c t w) ≡ true
+  pub lowest : (r : Refusal) → judgement c t w ≡ verdict.Refused r → (q : Refusal) → rankOf q < rankOf r → brokenRule q (rules c t w) ≡ false
+  pub unbroken : judgement c t w ≡ verdict.Done → (q : Refusal) → brokenRule q (rules c t w) ≡ false
 
 -- ---- the two Dst modes, spelled out apart from the definitions that the rules and the widths go by
 
@@ -107,10 +129,10 @@ pub record SettingsModes (s : Settings) : Type 0 where
 -- a word, under any record and thread
 pub record WordModes (c : Control) (t w : ℕ) : Type 0 where
   -- it breaks 5 exactly when neither mode is modelled
-  pub unmodelled : brokenNumber 5 (rules c t w) ≡ true → Unmodelled (c .settings) w
-  pub five : Unmodelled (c .settings) w → brokenNumber 5 (rules c t w) ≡ true
+  pub unmodelled : brokenRule UnmodelledSettings (rules c t w) ≡ true → Unmodelled (c .settings) w
+  pub five : Unmodelled (c .settings) w → brokenRule UnmodelledSettings (rules c t w) ≡ true
   -- 7 cannot occur in the BF16 mode: it is not broken, and no single step is refused with it
-  pub not-seven : InBf16 (c .settings) → brokenNumber 7 (rules c t w) ≡ false
+  pub not-seven : InBf16 (c .settings) → brokenRule DstRow (rules c t w) ≡ false
   pub step : InBf16 (c .settings) → (s : State) (r : Refusal) → verdictOf c t w s ≡ verdict.Refused r → numberOf r ≢ 7
 
 pub record JobModes (job : List ℕ) : Type 0 where

@@ -9,6 +9,7 @@ use borrow.Fn.PlainCycle.{Measures, is, falls, and}
 use Rattle.lines.proofs.write.push_decimal.Reads as push-decimal
 use Rattle.lines.proofs.write.push_decimal.Kinds as push-decimal-kinds
 use Rattle.lines.proofs.write.+push_decimal.Lts-push_decimal as push-decimal-lts
+use Rattle.lines.proofs.write.push.Reads as push-reads
 use Rattle.lines.proofs.write.+push_decimal.{statement}
 use Rattle.lines.proofs.write.+push_decimal.Tie.{close}
 

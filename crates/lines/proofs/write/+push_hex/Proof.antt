@@ -10,6 +10,8 @@ use borrow.Fn.PlainCycle.{Measures, is, falls, and}
 use Rattle.lines.proofs.write.push_hex.Reads as push-hex
 use Rattle.lines.proofs.write.push_hex.Kinds as push-hex-kinds
 use Rattle.lines.proofs.write.+push_hex.Lts-push_hex as push-hex-lts
+use Rattle.lines.proofs.write.hex_digit.Reads as hex-digit-reads
+use Rattle.lines.proofs.write.push.Reads as push-reads
 use Rattle.lines.proofs.write.+push_hex.{statement}
 use Rattle.lines.proofs.write.+push_hex.Tie.{close}
 

@@ -9,11 +9,13 @@ use Rattle.cells.proofs.Cells.{over-true}
 use Rattle.cells.specs.declared.layout.File.the-variants.{A, B}
 use Rattle.control.specs.declared.Control.{Control}
 use Rattle.rules.specs.Access.{wordSets}
+use Rattle.job.specs.declared.Write.{Write}
+use Rattle.job.specs.declared.Write.the-variants.{LoadSrc, LoadDst, LoadRegister, ZeroRows}
 use Rattle.job.specs.declared.Kind.{Kind}
 use Rattle.job.specs.declared.Kind.the-variants as kind
 use Rattle.precheck.specs.Marks.{Marks}
 use Rattle.precheck.specs.Marks.{markSrc, markDst, markRegister, instructionMarks}
-use Rattle.precheck.specs.Fields.{fieldMarks}
+use Rattle.precheck.specs.Marking.{writeMarks, fieldMarks}
 
 -- each mark of m stands in n
 abbrev pub In : List Bool → List Bool → Type 0
@@ -29,16 +31,19 @@ stays m = record { dst = λ r t. t; registers = λ r t. t }
 pub stays-on : (l m n : Marks) → Stays l m → Stays m n → Stays l n
 stays-on l m n p q = record { dst = λ r t. q .dst r (p .dst r t); registers = λ r t. q .registers r (p .registers r t) }
 
+write-stays : (c : Control) (m : Marks) (x : Write) → Stays m (writeMarks c m x)
+unfolding markSrc markDst markRegister
+write-stays c m (LoadSrc A rows) = record { dst = λ r t. t; registers = λ r t. t }
+write-stays c m (LoadSrc B rows) = record { dst = λ r t. t; registers = λ r t. t }
+write-stays c m (LoadDst w rows) = record { dst = over-true (inSpan rows) (m .dst); registers = λ r t. t }
+write-stays c m (LoadRegister t r) = record { dst = λ r t. t; registers = over-true _ (m .registers) }
+write-stays c m (ZeroRows w rows) = record { dst = over-true (inSpan rows) (m .dst); registers = λ r t. t }
+
 pub marks-stay : (c : Control) (m : Marks) (k : Kind) → Stays m (fieldMarks c m k)
-unfolding fieldMarks markSrc markDst markRegister instructionMarks
+unfolding fieldMarks instructionMarks
 marks-stay c m kind.Settings = stays m
-marks-stay c m (kind.LoadSrc A rows) = record { dst = λ r t. t; registers = λ r t. t }
-marks-stay c m (kind.LoadSrc B rows) = record { dst = λ r t. t; registers = λ r t. t }
-marks-stay c m (kind.LoadDst w rows) = record { dst = over-true (inSpan rows) (m .dst); registers = λ r t. t }
-marks-stay c m (kind.LoadRegister t r) = record { dst = λ r t. t; registers = over-true _ (m .registers) }
-marks-stay c m (kind.HandOver file) = stays m
 marks-stay c m (kind.Issue t w) = record { dst = λ r t. t; registers = over-true (inSpan (wordSets c t w .registers)) (m .registers) }
-marks-stay c m (kind.OutputRows w rows) = stays m
-marks-stay c m (kind.OutputRegister t r) = stays m
-marks-stay c m (kind.ZeroRows w rows) = record { dst = over-true (inSpan rows) (m .dst); registers = λ r t. t }
-marks-stay c m kind.Wrong = stays m
+marks-stay c m (kind.HandOver file) = stays m
+marks-stay c m (kind.Writes x) = write-stays c m x
+marks-stay c m (kind.Prints o) = stays m
+marks-stay c m (kind.Wrong x) = stays m

@@ -5,11 +5,11 @@ use mathlib.Core.List.{List, [], _∷_}
 use Prim.Native.Nat.{ℕ}
 use borrow.Author.Tests.{not-false}
 use lib.Dec.{ltb}
-use Rattle.cells.specs.Layout.{oneRegister}
+use Rattle.cells.specs.Layout.{threadCount, srcNumbers, dstNumbers, registerCount, oneRegister}
 use Rattle.cells.specs.declared.Width.{Width}
 use Rattle.cells.specs.declared.Width.the-variants.{Bits32}
 use Rattle.cells.specs.Cells.{inSpan}
-use Rattle.cells.proofs.Same.{written, numbers-over}
+use Rattle.cells.proofs.Same.{written as overwritten, numbers-over}
 use Rattle.cells.specs.declared.layout.File.the-variants.{A, B}
 use Rattle.word.specs.Word.{wordOperands, readWord}
 use Rattle.word.specs.declared.Read.{Read}
@@ -28,12 +28,16 @@ use Rattle.cells.specs.State.{State, sized}
 use Rattle.step.specs.Effect.{effectOf, stateAfter}
 use Rattle.step.specs.Step.{verdictOf, stateOf}
 use Rattle.cells.proofs.Sizes.{sized-of}
-use Rattle.job.proofs.Says.{Says}
+use Rattle.job.proofs.Says.{WriteSays, Says}
+use Rattle.job.specs.declared.Write.{Write}
+use Rattle.job.specs.declared.Write.the-variants.{LoadSrc, LoadDst, LoadRegister, ZeroRows}
 use Rattle.job.specs.declared.Kind.{Kind}
 use Rattle.job.specs.declared.Kind.the-variants as kind
 use Rattle.precheck.specs.Marks.{Marks, readsSet, markSrc, markDst, markRegister}
-use Rattle.precheck.specs.Fields.{loadedRows, unsetRead, fieldRules, fieldMarks}
-use Rattle.run.specs.Perform.{loaded, performed, stepVerdict}
+use Rattle.walk.specs.FieldRecord.{loadedRows}
+use Rattle.precheck.specs.Judging.{unsetRead, fieldRules}
+use Rattle.precheck.specs.Marking.{writeMarks, fieldMarks}
+use Rattle.run.specs.Perform.{loaded, written, performed, stepVerdict}
 use Rattle.demand.proofs.Rules.{never, parts-done, alone-done}
 use Rattle.demand.specs.Breaks.{isIssue}
 use Rattle.demand.proofs.Agreement.{Agree, byRow, alone, word-agrees}
@@ -61,7 +65,7 @@ module _ (c : Control) (m : Marks) (t w : ℕ) (h : lowest (fieldRules c m (kind
       rw (acts c t w judged-done)
       (not-false _ (alone-done UnsetRead (unsetRead c m t w) (parts-done (rules c t w) ((UnsetRead when unsetRead c m t w) ∷ []) h .1)))
 
-  module _ (range : inRange c ≡ true) (thread : ltb t 3 ≡ true) where
+  module _ (range : inRange c ≡ true) (thread : ltb t threadCount ≡ true) where
     verdict-done : (s : State) → sized s ≡ true → verdictOf c t w s ≡ Done
     unfolding verdictOf judgement
     verdict-done s size = simp (size, range, thread) judged-done
@@ -84,40 +88,39 @@ module _ (c : Control) (m : Marks) (range : inRange c ≡ true) (w : Width) (d e
   pub field-done : (k : Kind) → Says w tag p k → lowest (fieldRules c m k) ≡ Done → stepVerdict c k d ≡ Done
   unfolding stepVerdict
   field-done kind.Settings i h = refl
-  field-done (kind.LoadSrc file rows) i h = refl
-  field-done (kind.LoadDst v rows) i h = refl
-  field-done (kind.LoadRegister t r) i h = refl
-  field-done (kind.HandOver file) i h = refl
   field-done (kind.Issue t x) i h = verdict-done c m t x h range i d (left-sized w m d e s)
-  field-done (kind.OutputRows v rows) i h = refl
-  field-done (kind.OutputRegister t r) i h = refl
-  field-done (kind.ZeroRows v rows) i h = refl
-  field-done kind.Wrong i h = refl
+  field-done (kind.HandOver file) i h = refl
+  field-done (kind.Writes x) i h = refl
+  field-done (kind.Prints o) i h = refl
+  field-done (kind.Wrong x) i h = refl
 
   -- and the states agree after it, where the record has the width too
-  pub field-agrees : (job : List ℕ) (place : ℕ) (k : Kind) → Says w tag p k → (isIssue k ≡ true → widthOf (c .settings) ≡ w) → lowest (fieldRules c m k) ≡ Done
-      → Agree w (fieldMarks c m k) (performed job c place k d) (performed job c place k e)
-  unfolding fieldMarks performed loaded markSrc markDst markRegister wordSets wordUnsets
-  field-agrees job place kind.Settings i q h = s
-  field-agrees job place (kind.LoadSrc A rows) i q h =
-      record { srca = written Bits32 byRow 2048 (m .srca) (d .srca) (e .srca) (s .srca) (loadedRows c A rows) _; srcb = s .srcb; dst = s .dst; registers = s .registers }
-  field-agrees job place (kind.LoadSrc B rows) i q h =
-      record { srca = s .srca; srcb = written Bits32 byRow 2048 (m .srcb) (d .srcb) (e .srcb) (s .srcb) (loadedRows c B rows) _; dst = s .dst; registers = s .registers }
-  field-agrees job place (kind.LoadDst v rows) i q h =
-      rw (i .5) (record { srca = s .srca; srcb = s .srcb; dst = written w byRow 8192 (m .dst) (d .dst) (e .dst) (s .dst) rows _; registers = s .registers })
-  field-agrees job place (kind.LoadRegister t r) i q h =
+  write-agrees : (job : List ℕ) (place : ℕ) (x : Write) → WriteSays w tag p x → Agree w (writeMarks c m x) (written job c place x d) (written job c place x e)
+  unfolding written loaded markSrc markDst markRegister
+  write-agrees job place (LoadSrc A rows) i =
+      record { srca = overwritten Bits32 byRow srcNumbers (m .srca) (d .srca) (e .srca) (s .srca) (loadedRows c A rows) _; srcb = s .srcb; dst = s .dst; registers = s .registers }
+  write-agrees job place (LoadSrc B rows) i =
+      record { srca = s .srca; srcb = overwritten Bits32 byRow srcNumbers (m .srcb) (d .srcb) (e .srcb) (s .srcb) (loadedRows c B rows) _; dst = s .dst; registers = s .registers }
+  write-agrees job place (LoadDst v rows) i =
+      rw (i .5) (record { srca = s .srca; srcb = s .srcb; dst = overwritten w byRow dstNumbers (m .dst) (d .dst) (e .dst) (s .dst) rows _; registers = s .registers })
+  write-agrees job place (LoadRegister t r) i =
       record {
         srca = s .srca;
         srcb = s .srcb;
         dst = s .dst;
-        registers = numbers-over alone 192 (m .registers) (d .registers) (e .registers) (s .registers) (inSpan (oneRegister t r)) _ _ (λ i q. refl);
+        registers = numbers-over alone registerCount (m .registers) (d .registers) (e .registers) (s .registers) (inSpan (oneRegister t r)) _ _ (λ i q. refl);
       }
-  field-agrees job place (kind.HandOver file) i q h = s
+  write-agrees job place (ZeroRows v rows) i =
+      rw (i .1) (record { srca = s .srca; srcb = s .srcb; dst = overwritten w byRow dstNumbers (m .dst) (d .dst) (e .dst) (s .dst) rows _; registers = s .registers })
+
+  pub field-agrees : (job : List ℕ) (place : ℕ) (k : Kind) → Says w tag p k → (isIssue k ≡ true → widthOf (c .settings) ≡ w) → lowest (fieldRules c m k) ≡ Done
+      → Agree w (fieldMarks c m k) (performed job c place k d) (performed job c place k e)
+  unfolding fieldMarks performed wordSets wordUnsets
+  field-agrees job place kind.Settings i q h = s
   field-agrees job place (kind.Issue t x) i q h =
       rw (state-is c m t x h range i d (left-sized w m d e s), state-is c m t x h range i e (right-sized w m d e s))
       (word-agrees w m d e s c t (acting x) (q refl) (reads-set c m t x h))
-  field-agrees job place (kind.OutputRows v rows) i q h = s
-  field-agrees job place (kind.OutputRegister t r) i q h = s
-  field-agrees job place (kind.ZeroRows v rows) i q h =
-      rw (i .1) (record { srca = s .srca; srcb = s .srcb; dst = written w byRow 8192 (m .dst) (d .dst) (e .dst) (s .dst) rows _; registers = s .registers })
-  field-agrees job place kind.Wrong i q h = s
+  field-agrees job place (kind.HandOver file) i q h = s
+  field-agrees job place (kind.Writes x) i q h = write-agrees job place x i
+  field-agrees job place (kind.Prints o) i q h = s
+  field-agrees job place (kind.Wrong x) i q h = s
