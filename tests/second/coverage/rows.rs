@@ -1,0 +1,191 @@
+//! The rows that are counted.
+
+use super::multiplies::{AFTER, BEFORE, DATUM, ROUNDING};
+use super::table::{Group, Table};
+use super::{data, issues, passing, refused, Mode, MULTIPLY};
+use crate::engine::{
+    Control, Entry, Field, Instruction, Name, Refusal, Scalar, Slot, Tag, Thread, What, Width,
+    BANKS, BF16, BITWOPDMAREG, BLOCK, FILES, INCRWC, PHASES, SHIFTXB, SLOTS, SRC, SRC_ROWS, TABLE,
+    TF32, THREADS, ZEROSRC,
+};
+use crate::explain::Reason;
+
+/// The fields that name Dst rows.
+const OF_ROWS: [Tag; 3] = [Tag::LoadRows, Tag::OutputRows, Tag::ZeroRows];
+
+fn names(holds: impl Fn(&Entry) -> bool) -> Vec<&'static str> {
+    let entries = TABLE.iter().filter(|entry| holds(entry));
+    entries.map(|entry| entry.name).collect()
+}
+
+fn multiplies() -> Vec<&'static str> {
+    names(|entry| entry.class.is_multiply())
+}
+
+/// A word with no field, for the names of its tests.
+fn plain(entry: &'static Entry) -> Instruction {
+    let word = entry.word(&[]);
+    Instruction { entry, word }
+}
+
+pub fn table() -> Table {
+    let mut table = Table::empty();
+    enter_jobs(&mut table);
+    enter_modes(&mut table);
+    enter_refusals(&mut table);
+    enter_halves(&mut table);
+    enter_multiplies(&mut table);
+    enter_banks(&mut table);
+    enter_classes(&mut table);
+    enter_data(&mut table);
+    enter_ranges(&mut table);
+    table
+}
+
+fn enter_jobs(table: &mut Table) {
+    let modes = || Mode::ALL.iter().map(|mode| mode.text());
+    table.enter(Group::Jobs, ["passing", "refused"]);
+    table.enter(Group::PassingSettings, modes());
+    table.enter(Group::RefusedSettings, modes());
+    let numbers = Refusal::OF_PRECHECK.iter().map(|refusal| refusal.number());
+    table.enter(Group::RefusalNumber, numbers);
+    table.enter(Group::Size, [passing::size_row(), refused::size_row()]);
+    let reasons = Reason::ALL.iter().map(|reason| reason.text());
+    table.enter(Group::WrongShape, reasons);
+    table.enter(Group::PassingField, Tag::ALL.iter().map(|tag| tag.text()));
+    table.enter(Group::IssueThread, 0..THREADS);
+    table.enter(Group::PassingOpcode, names(|_| true));
+}
+
+fn enter_modes(table: &mut Table) {
+    for entry in TABLE {
+        let Some(bits) = entry.find(Name::Mode) else {
+            continue;
+        };
+        let (name, count) = (entry.name, bits.count());
+        let (low, high) = bits.defined;
+        let defined = (low..=high).map(|mode| format!("{name} {mode}"));
+        table.enter(Group::PassingMode, defined);
+        // All bits at once give a row for each bit, where there are such rows.
+        let all = (1 << count) - 1;
+        let modes = if count > 3 { all..=all } else { 0..=all };
+        for mode in modes.filter(|&mode| !bits.defines(mode)) {
+            table.enter(Group::UndefinedMode, refused::mode_rows(name, count, mode));
+        }
+    }
+}
+
+fn enter_refusals(table: &mut Table) {
+    table.enter(Group::UnnamedBit, names(|entry| entry.named != u32::MAX));
+    table.enter(Group::UnnamedBit, (0..24).map(refused::bit_row));
+    table.enter(Group::Unmodelled, multiplies());
+    table.enter_tests(Group::Unmodelled, refused::unmodelled(&Control::start()));
+    table.enter(
+        Group::OtherOwner,
+        names(|entry| !entry.class.needs().is_empty()),
+    );
+    for tag in [Tag::LoadRows, Tag::HandOver] {
+        let rows = SRC.map(|file| refused::owner_row(tag, file));
+        table.enter(Group::OtherOwner, rows);
+    }
+    table.enter(Group::DstRow, multiplies());
+    let unset = refused::Unset::ALL.iter().map(|unset| unset.text());
+    table.enter(Group::Unset, unset);
+}
+
+fn enter_halves(table: &mut Table) {
+    table.enter(Group::UnsetHalf, [MULTIPLY, Tag::OutputRows.text()]);
+    for tag in OF_ROWS.map(Tag::text) {
+        let places = passing::Place::ALL.iter().map(|place| place.text());
+        table.enter(
+            Group::HalfRows,
+            places.map(|place| format!("{tag} {place}")),
+        );
+        let modes = [Mode::Fp32, Mode::Neither].map(Mode::text);
+        table.enter(
+            Group::RightWith16,
+            modes.map(|mode| format!("{mode}, {tag}")),
+        );
+    }
+    table.enter(Group::RightWith32, [Tag::LoadRows.text()]);
+    for name in multiplies() {
+        let halves = ["low", "high"].map(|half| format!("{name} into {half} halves"));
+        table.enter(Group::HalfMultiply, halves);
+    }
+    table.enter(Group::HalfMultiply, ["into the last rows"]);
+    let written = [Tag::LoadRows.text(), Tag::ZeroRows.text(), MULTIPLY];
+    table.enter(Group::WrittenHalf, written);
+    let neither = passing::neither_tests(&Field::settings(0, 0));
+    table.enter_tests(Group::NeitherMode, neither);
+}
+
+fn enter_multiplies(table: &mut Table) {
+    table.enter(Group::MultiplyFormat, [BF16, TF32]);
+    for name in multiplies() {
+        let phases = (0..PHASES).map(|phase| format!("{name} {phase}"));
+        table.enter(Group::MultiplyPhase, phases);
+        let clears = (0..4).map(|clear| format!("{name} {clear}"));
+        table.enter(Group::MultiplyClear, clears);
+    }
+}
+
+fn enter_banks(table: &mut Table) {
+    for file in SRC.map(|file| FILES[file]) {
+        let banks = || (0..BANKS).map(|bank| format!("{file} {bank}"));
+        table.enter(Group::MultiplyBank, banks());
+        table.enter(Group::LoadBank, banks());
+        table.enter(Group::ClearedEarly, [file]);
+        let rows = [format!("{file} 0"), format!("{file} other")];
+        table.enter(Group::MultiplyRow, rows);
+    }
+}
+
+fn enter_classes(table: &mut Table) {
+    table.enter(Group::LegacyClear, 0..4);
+    table.enter(Group::SetrwcClear, 0..4);
+    table.enter(Group::SetrwcWhich, 0..16);
+    let (thread, slot) = (Thread::default(), Slot::default());
+    table.enter(Group::SlotUsed, 0..SLOTS);
+    table.enter_tests(Group::SlotFlag, issues::slot_flags(&slot));
+    table.enter_tests(Group::SlotWraps, issues::slot_wraps(&thread, &slot));
+    let wraps = issues::counter_wraps(&thread, plain(&INCRWC));
+    table.enter_tests(Group::IncrwcWraps, wraps);
+    table.enter(Group::ZerosrcFiles, 0..4);
+    let zerosrc = issues::zerosrc(&Control::start(), plain(&ZEROSRC));
+    table.enter_tests(Group::Zerosrc, zerosrc);
+    table.enter(Group::ShiftxaLast, (0..SRC_ROWS).step_by(BLOCK));
+    table.enter_tests(Group::Shiftxb, issues::shiftxb(&thread, plain(&SHIFTXB)));
+    let scalar = issues::scalar_b(Scalar::Bitwise, plain(&BITWOPDMAREG), 0);
+    table.enter_tests(Group::ScalarB, scalar);
+    table.enter(Group::ScalarCompare, 0..2);
+}
+
+fn enter_data(table: &mut Table) {
+    for group in DATUM {
+        table.enter_tests(group, data::src(0, 0, 0.0, false));
+    }
+    for width in Width::ALL {
+        table.enter_tests(BEFORE[width as usize], data::before(width, 0));
+        table.enter_tests(AFTER[width as usize], data::after(width, 0, 0));
+    }
+    for group in ROUNDING {
+        table.enter_tests(group, data::rounding(0.0, 0.0, 0.0, 0));
+    }
+}
+
+fn enter_ranges(table: &mut Table) {
+    let (dst, others): (Vec<What>, Vec<What>) = What::ALL.iter().partition(|w| w.is_of_dst());
+    let mut rows: Vec<String> = others.iter().map(|what| what.text().to_string()).collect();
+    for width in Width::ALL {
+        // 32 bits hold no value past the highest.
+        let ranged = |what: &&What| width == Width::Bits16 || **what != What::DstValue;
+        rows.extend(dst.iter().filter(ranged).map(|what| what.under(width)));
+    }
+    for group in [Group::RangeLow, Group::RangeHigh, Group::PastHigh] {
+        table.enter(group, &rows);
+    }
+    let counts = rows.iter().filter(|row| row.starts_with("count"));
+    table.enter(Group::PastLow, counts);
+    table.enter_tests(Group::LoadRows, passing::load_tests(0));
+    table.enter_tests(Group::LoadRows, refused::load_tests(0));
+}

@@ -1,0 +1,97 @@
+//! Whole jobs.
+
+use super::{
+    act, follow, judge, register_at, shape, step, width_of, Answer, Control, Field, Marks, Refusal,
+    State, Width, COLUMNS,
+};
+
+/// Judges the whole shape, then field after field.
+pub fn precheck(job: &[u8]) -> Answer {
+    let (fields, wrong) = shape(job);
+    if let Some(place) = wrong {
+        return Refusal::Shape.at(place);
+    }
+    let (mut control, mut marks) = (Control::start(), Marks::start());
+    let mut issued = 0;
+    for (place, field) in fields {
+        if let Some(refusal) = judge(&control, &marks, &field) {
+            return refusal.at(place);
+        }
+        follow(&mut control, &mut marks, &field);
+        issued += u64::from(matches!(field, Field::Issue { .. }));
+    }
+    Answer::Finished(issued)
+}
+
+pub fn run(job: &[u8], state: &mut State) -> Answer {
+    run_with(job, state, step)
+}
+
+/// The job run with another single step in place of ours: so both roads through an instruction are
+/// walked, the pre-check's and the step's.
+pub fn run_with(
+    job: &[u8],
+    state: &mut State,
+    step: impl Fn(&mut Control, usize, u32, &mut State) -> Option<Refusal>,
+) -> Answer {
+    if !state.fits() {
+        return Refusal::LentLength.at(0);
+    }
+    let answer = precheck(job);
+    if let Answer::Refused { .. } = answer {
+        return answer;
+    }
+    // The marks were the pre-check's concern; here they only come along.
+    let (mut control, mut marks) = (Control::start(), Marks::start());
+    for (place, field) in shape(job).0 {
+        if let Field::Issue { thread, word } = field {
+            if step(&mut control, thread, word, state).is_some() {
+                return Refusal::AfterPrecheck.at(place);
+            }
+        } else {
+            act(&control, &field, state);
+            follow(&mut control, &mut marks, &field);
+        }
+    }
+    answer
+}
+
+fn row_line(width: Width, row: usize, state: &State) -> String {
+    let mut line = format!("D {row}");
+    for column in 0..COLUMNS {
+        let number = width.get(&state.dst, row * COLUMNS + column);
+        line += &format!(" {number:0digits$x}", digits = width.digits());
+    }
+    line
+}
+
+/// The output lines of a finished job over its final state.
+pub fn lines(job: &[u8], state: &State) -> Vec<String> {
+    let mut lines = Vec::new();
+    let fields = shape(job).0;
+    let width = width_of(&fields);
+    for (_, field) in fields {
+        match field {
+            Field::OutputRows { first, count } => {
+                let rows = first..first + count;
+                lines.extend(rows.map(|row| row_line(width, row, state)));
+            }
+            Field::OutputRegister { thread, register } => {
+                let value = state.registers[register_at(thread, register)];
+                lines.push(format!("G {thread} {register} {value:08x}"));
+            }
+            _ => {}
+        }
+    }
+    lines
+}
+
+/// Exactly what the job program prints.
+pub fn output(job: &[u8], state: &mut State) -> String {
+    let answer = run(job, state);
+    let mut text = vec![answer.line("finished")];
+    if let Answer::Finished(_) = answer {
+        text.extend(lines(job, state));
+    }
+    text.join("\n") + "\n"
+}

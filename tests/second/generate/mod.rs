@@ -1,0 +1,67 @@
+//! Jobs and lent states from a seed. A job is built while the engine's own record and marks are
+//! tracked, so that it passes; about half of the jobs are then damaged on purpose.
+
+// A program that takes this folder by its path may need only a part of it.
+#![allow(dead_code)]
+
+mod builder;
+mod damage;
+mod edges;
+mod grow;
+mod halfway;
+mod passing;
+mod raw;
+
+pub mod numbers;
+pub mod records;
+pub mod rng;
+pub mod words;
+
+use crate::engine::{shape, width_of, write, Field, JOB_BYTES};
+use damage::{damage, damage_bytes};
+use grow::grow;
+use numbers::{numbers, register_value};
+use passing::build;
+use rng::Rng;
+
+pub fn job(rng: &mut Rng) -> Vec<u8> {
+    let wild = rng.one_in(8);
+    let mut fields = build(rng, wild);
+    if rng.one_in(40) {
+        let size = rng.pick(&[JOB_BYTES, JOB_BYTES, JOB_BYTES + 1, JOB_BYTES + 500]);
+        grow(rng, &mut fields, size);
+    }
+    let kind = rng.below(20);
+    if (10..=17).contains(&kind) {
+        damage(rng, &mut fields);
+    }
+    // The first of two broken rules counts.
+    if kind == 17 && !fields.is_empty() {
+        damage(rng, &mut fields);
+    }
+    let mut job = fields.concat();
+    if kind > 17 {
+        damage_bytes(rng, &mut job);
+    }
+    job
+}
+
+/// The same job with other values in its load fields, each as its field allows; behind the first
+/// wrong place it stays as it is.
+pub fn reload(rng: &mut Rng, job: &[u8]) -> Vec<u8> {
+    let mut bytes = job.to_vec();
+    let fields = shape(job).0;
+    let width = width_of(&fields);
+    for (place, mut field) in fields {
+        match &mut field {
+            Field::LoadRows {
+                file, numbers: old, ..
+            } => *old = numbers(rng, width, *file, old.len()),
+            Field::LoadRegister { value, .. } => *value = register_value(rng),
+            _ => continue,
+        }
+        let new = write(&field);
+        bytes[place..place + new.len()].copy_from_slice(&new);
+    }
+    bytes
+}

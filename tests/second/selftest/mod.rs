@@ -1,0 +1,41 @@
+//! Small named cases: the papers' worked numbers, and more. A failing one tells what it got.
+
+mod halves;
+mod papers;
+mod steps;
+
+use std::fmt::Debug;
+
+use crate::engine::{output, Field, State};
+use crate::worked::bytes;
+
+type Verdict = Result<(), String>;
+type Case = (&'static str, fn() -> Verdict);
+
+/// Numbers are told in hexadecimal, as most are bits.
+fn same<G: Debug + PartialEq<W>, W: Debug>(got: G, wanted: W) -> Verdict {
+    if got == wanted {
+        Ok(())
+    } else {
+        Err(format!("got {got:x?}, not {wanted:x?}"))
+    }
+}
+
+/// What a job prints over zeros.
+fn prints(fields: &[Field]) -> String {
+    output(&bytes(fields), &mut State::zero())
+}
+
+/// What came of all cases, and whether they passed.
+pub fn selftest() -> (String, bool) {
+    let cases = [papers::CASES, halves::CASES].concat();
+    let (mut text, mut failed) = (String::new(), 0);
+    for (name, test) in &cases {
+        if let Err(what) = test() {
+            failed += 1;
+            text += &format!("failed: {name}: {what}\n");
+        }
+    }
+    text += &format!("{} passed, {failed} failed\n", cases.len() - failed);
+    (text, failed == 0)
+}

@@ -1,0 +1,249 @@
+//! The papers' numbers as jobs: they are stored, and the self-test says what they print.
+
+use crate::engine::{
+    datum, write, Field, Name, A, B, BF16, BLOCK, BLOCK_NUMBERS, COLUMNS, D, DST_ROWS, FP16A, FP32,
+    INT8, JOB_BYTES, MANTISSAS, MOST_DST_ROWS, MVMUL, SHIFTXB, TF32,
+};
+
+/// Rows of a multiply.
+const EIGHT: usize = 8;
+const EIGHT_NUMBERS: usize = EIGHT * COLUMNS;
+
+pub fn bytes(fields: &[Field]) -> Vec<u8> {
+    fields.iter().flat_map(write).collect()
+}
+
+pub fn issue(word: u32) -> Field {
+    Field::Issue { thread: 0, word }
+}
+
+/// An MVMUL with a dst field.
+pub fn mvmul_word(dst: usize) -> u32 {
+    MVMUL.word(&[(Name::Dst, dst as u32)])
+}
+
+pub fn mvmul(dst: usize) -> Field {
+    issue(mvmul_word(dst))
+}
+
+pub fn load(file: usize, first: usize, numbers: &[u32]) -> Field {
+    Field::LoadRows {
+        file,
+        first,
+        numbers: numbers.to_vec(),
+    }
+}
+
+pub fn zero(first: usize, count: usize) -> Field {
+    Field::ZeroRows { first, count }
+}
+
+pub fn rows_out(first: usize, count: usize) -> Field {
+    Field::OutputRows { first, count }
+}
+
+pub fn register_out(register: usize) -> Field {
+    let thread = 0;
+    Field::OutputRegister { thread, register }
+}
+
+pub fn hand_over(file: usize) -> Field {
+    Field::HandOver { file }
+}
+
+/// The datum of a power of two.
+pub fn power(minus: bool, exponent: i32) -> u32 {
+    datum(minus.into(), (exponent + 127) as u32, 0)
+}
+
+pub fn one() -> u32 {
+    power(false, 0)
+}
+
+/// Rows of SrcA with these numbers in column 0, from the top down.
+pub fn column_0(numbers: &[u32]) -> Vec<u32> {
+    let mut rows = vec![0; BLOCK_NUMBERS];
+    for (k, number) in numbers.iter().enumerate() {
+        rows[k * COLUMNS] = *number;
+    }
+    rows
+}
+
+/// The fields that load SrcA rows and one row of SrcB above seven of zeros, and hand both over.
+fn ready(a_rows: &[u32], b_row: &[u32]) -> Vec<Field> {
+    let mut b_rows = vec![0; EIGHT_NUMBERS];
+    b_rows[..b_row.len()].copy_from_slice(b_row);
+    vec![
+        load(A, 0, a_rows),
+        load(B, 0, &b_rows),
+        hand_over(A),
+        hand_over(B),
+    ]
+}
+
+/// A job of document 01 with both Src files ready and eight Dst rows of zeros; then the fields
+/// given, and the first Dst row as output.
+pub fn row_job(a_rows: &[u32], b_row: &[u32], fields: &[Field]) -> Vec<Field> {
+    let mut job = vec![Field::settings(TF32, FP32)];
+    job.extend(ready(a_rows, b_row));
+    job.push(zero(0, EIGHT));
+    job.extend_from_slice(fields);
+    job.push(rows_out(0, 1));
+    job
+}
+
+/// Products 2^24, 1 and 1 by a row and a column of these.
+pub fn wide() -> [u32; 3] {
+    [power(false, 12), one(), one()]
+}
+
+/// Document 01's numbers that it does not mark as proved, as jobs: the row of SrcB shows in Dst
+/// through a SrcA with ones on its diagonal, so it holds 1 to 16 as numbers.
+pub fn paper_jobs() -> Vec<Vec<u8>> {
+    let mut ones = vec![0; BLOCK_NUMBERS];
+    for k in 0..BLOCK {
+        ones[k * COLUMNS + k] = one();
+    }
+    // The datum of a whole number from 1 to 16.
+    let whole = |n: u32| datum(0, 127 + n.ilog2(), (n << (10 - n.ilog2())) % MANTISSAS);
+    let count: Vec<u32> = (1..=16).map(whole).collect();
+    let shifted = |word: u32| bytes(&row_job(&ones, &count, &[issue(word), mvmul(0)]));
+    vec![
+        shifted(SHIFTXB.word(&[])),
+        shifted(SHIFTXB.word(&[(Name::ZeroFill, 1)])),
+        bytes(&row_job(&column_0(&wide()), &wide(), &[mvmul(0)])),
+        Vec::new(),
+        vec![0; JOB_BYTES + 1],
+    ]
+}
+
+// ------------------------------------------------------------------------- Dst rows of 16 bits
+
+/// A job with 16-bit Dst rows.
+pub fn in_halves(fields: &[Field]) -> Vec<Field> {
+    [&[Field::settings(BF16, 0)], fields].concat()
+}
+
+/// SrcA's column 0 with these powers of two from the top down, and SrcB's row 0 with ones.
+pub fn powers(exponents: &[i32]) -> Vec<Field> {
+    let numbers = exponents.iter().map(|&exponent| power(false, exponent));
+    let numbers: Vec<u32> = numbers.collect();
+    ready(&column_0(&numbers), &vec![one(); exponents.len()])
+}
+
+/// Four Dst rows: the number 256 times the row's place among them, plus 1 and the column.
+pub fn four_rows() -> Vec<u32> {
+    (0..64).map(|n| n / 16 * 256 + n % 16 + 1).collect()
+}
+
+/// Loads, zeroing and output from row 510 to 513.
+pub fn across() -> Vec<Field> {
+    let load = load(D, DST_ROWS - 2, &four_rows());
+    in_halves(&[load, zero(DST_ROWS - 1, 2), rows_out(DST_ROWS - 2, 4)])
+}
+
+/// A multiply into Dst rows of zeros: 1 + 2^-8 + 2^-26.
+pub fn rounded_sum(format: u8, flags: u8, dst: usize) -> Vec<Field> {
+    let mut job = vec![Field::settings(format, flags)];
+    job.extend(powers(&[0, -8, -26]));
+    let lent = zero(dst % DST_ROWS, EIGHT);
+    job.extend([lent, zero(dst, EIGHT), mvmul(dst), rows_out(dst, 1)]);
+    job
+}
+
+/// A multiply into the high halves of lent rows 0 to 7, both halves loaded and put out.
+pub fn both_halves() -> Vec<Field> {
+    let mut job = in_halves(&powers(&[0, 0, 0]));
+    job.extend([
+        load(D, 0, &[0x3F80; EIGHT_NUMBERS]),
+        load(D, DST_ROWS, &[0x4040; EIGHT_NUMBERS]),
+        mvmul(DST_ROWS),
+        rows_out(0, 1),
+        rows_out(DST_ROWS, 1),
+    ]);
+    job
+}
+
+/// Old number, powers of two that are added (or subtracted), and the 16-bit result.
+type Rounded = (u32, &'static [(bool, i32)], u32);
+pub const ROUNDED: [Rounded; 14] = [
+    (0x3F80, &[(false, -8)], 0x3F80),
+    (0x3F81, &[(false, -8)], 0x3F82),
+    (0x3F80, &[(false, -8), (false, -26)], 0x3F80),
+    (0x3F80, &[(false, -8), (false, -23)], 0x3F81),
+    (0x7F7F, &[(false, 119)], 0x7F80),
+    (0x7F7F, &[(false, 118)], 0x7F7F),
+    (0xFF7F, &[(true, 119)], 0xFF80),
+    (0x8000, &[], 0x0000),
+    (0x7F81, &[(false, 0)], 0x7FC0),
+    (0xFF80, &[(false, 0)], 0xFF80),
+    (0x0001, &[(false, -134)], 0x0002),
+    (0x8002, &[(true, -134)], 0x8002),
+    (0x0000, &[(true, -134)], 0x8000),
+    (0x007F, &[(false, -134)], 0x0080),
+];
+
+/// These in one multiply, each in a column of its own, in row 512.
+pub fn rounded_row() -> Vec<Field> {
+    // SrcB's row is 1, 1 and 2^-34, the last for powers that SrcA alone does not reach.
+    const SMALL: i32 = -34;
+    let mut a_rows = vec![0; BLOCK_NUMBERS];
+    let mut old = vec![0; EIGHT_NUMBERS];
+    for (column, (number, added, _)) in ROUNDED.iter().enumerate() {
+        old[column] = *number;
+        for (k, &(minus, exponent)) in added.iter().enumerate() {
+            let (k, exponent) = if exponent < -126 {
+                (2, exponent - SMALL)
+            } else {
+                (k, exponent)
+            };
+            a_rows[k * COLUMNS + column] = power(minus, exponent);
+        }
+    }
+    let mut job = in_halves(&ready(&a_rows, &[one(), one(), power(false, SMALL)]));
+    job.extend([
+        load(D, DST_ROWS, &old),
+        mvmul(DST_ROWS),
+        rows_out(DST_ROWS, 1),
+    ]);
+    job
+}
+
+/// A row of zeros at 0, and one at a chosen row that ends with this number.
+pub fn ending(format: u8, flags: u8, row: usize, number: u32) -> Vec<Field> {
+    let mut numbers = [0x7F80; COLUMNS];
+    numbers[COLUMNS - 1] = number;
+    vec![
+        Field::settings(format, flags),
+        zero(0, 1),
+        load(D, row, &numbers),
+        rows_out(row, 1),
+    ]
+}
+
+/// The numbers of order 1 as jobs.
+pub fn half_jobs() -> Vec<Vec<u8>> {
+    let (border, rows) = (DST_ROWS, MOST_DST_ROWS);
+    let zeroing = |first: usize, count: usize| in_halves(&[zero(first, count), rows_out(1023, 1)]);
+    let jobs = [
+        across(),
+        rounded_sum(BF16, 0, 0),
+        rounded_sum(BF16, FP32, 0),
+        rounded_sum(BF16, 0, border),
+        rounded_sum(BF16, INT8, 0),
+        rounded_sum(TF32, 0, 0),
+        both_halves(),
+        rounded_row(),
+        ending(BF16, 0, border, 0xFFFF),
+        ending(BF16, 0, border, 0x1_0000),
+        ending(BF16, FP32, border - 1, 0x1_0000),
+        ending(BF16, FP32, border, 0),
+        ending(BF16, FP16A, border, 0),
+        zeroing(0, rows),
+        zeroing(0, rows + 1),
+        zeroing(1, rows),
+        zeroing(border, border),
+        zeroing(0, border),
+    ];
+    jobs.iter().map(|job| bytes(job)).collect()
+}
