@@ -1,0 +1,80 @@
+"""The command line."""
+
+import os
+import shutil
+import subprocess
+import sys
+import tempfile
+from pathlib import Path
+
+from .check import Case, equal, has
+from .made import EXAMPLES, TOOL, read
+
+
+def call(*arguments, given=b"", tool=TOOL, folder=None):
+    command = [sys.executable, str(tool), *map(str, arguments)]
+    return subprocess.run(command, input=given, capture_output=True, timeout=60, cwd=folder)
+
+
+def result(answer):
+    return answer.returncode, answer.stdout, answer.stderr
+
+
+def assembling():
+    with tempfile.TemporaryDirectory() as folder:
+        made = Path(folder) / "made.job"
+        answer = call("assemble", EXAMPLES / "register.txt", "-o", made)
+        yield equal("assemble to a file", result(answer), (0, b"", b""))
+        yield equal("the file", made.read_bytes(), read("register", "job"))
+        answer = call("assemble", "-", "-o", made, given=b"settings format bf16\nissue 0 NOP\n")
+        message = b"line 2: there is no instruction NOP"
+        yield equal("bad text", (answer.returncode, answer.stderr[: len(message)]), (1, message))
+        yield equal("a bad text leaves the file", made.read_bytes(), read("register", "job"))
+    answer = call("assemble", given=read("shift", "txt"))
+    yield equal("assemble by pipe", (answer.returncode, answer.stdout), (0, read("shift", "job")))
+    answer = call("assemble", given=b"settings format bf16\n")
+    yield equal("a wrong shape is assembled", answer.returncode, 0)
+    yield has("a note on a wrong shape", answer.stderr, b"note: the job's shape is wrong at 163")
+
+
+def listing():
+    answer = call("list", EXAMPLES / "register.job")
+    yield has("list", answer.stdout, b"issue 0 BITWOPDMAREG xor r3 r1 5", b"# at 172, 0x5b883141")
+    explained = call("explain", EXAMPLES / "refused_8.job", 8, 180)
+    yield has("explain", explained.stdout, b"# ^^^ refused 8 at 180", b"register 4 of thread 0 is unset")
+    answer = call("list", "-", "--refused", "refused 8 at 180", given=read("refused_8", "job"))
+    yield equal("list --refused", (answer.returncode, answer.stdout), (0, explained.stdout))
+    answer = call("explain", EXAMPLES / "register.job", 8, 180)
+    yield has("a refusal of another file", answer.stdout, b"is it the file that was run?")
+
+
+def wrong_calls():
+    for arguments in (
+        ("list", EXAMPLES / "no such file"),
+        ("list", EXAMPLES),
+        ("explain", EXAMPLES / "register.job", 8, 181),
+        ("explain", EXAMPLES / "register.job", 11, 180),
+        ("explain", EXAMPLES / "register.job", "x", "y"),
+        ("list", EXAMPLES / "register.job", "--refused", "finished 1"),
+    ):
+        answer = call(*arguments)
+        told = answer.returncode == 1 and bool(answer.stderr.strip()) and b"Traceback" not in answer.stderr
+        yield Case(f"{arguments[0]} {arguments[2:]} is told what is wrong", told, result(answer), "1 and a message")
+
+
+def places():
+    """The tool finds its modules by whatever path it is called, and writes nothing beside them."""
+    wanted = result(call("list", EXAMPLES / "register.job"))
+    with tempfile.TemporaryDirectory() as folder:
+        tools = Path(folder) / "tools"
+        shutil.copytree(TOOL.parent, tools)
+        before = sorted(tools.rglob("*"))
+        link = Path(folder) / "link"
+        os.symlink(Path("tools") / "job", link)
+        for name, tool, start in (("a relative path", "job", tools), ("a link", link, "/"), ("a relative link", "link", folder)):
+            answer = call("list", EXAMPLES / "register.job", tool=tool, folder=start)
+            yield equal(f"called by {name}", result(answer), wanted)
+        yield equal("nothing is written beside the tool", sorted(tools.rglob("*")), before)
+
+
+GROUPS = (assembling, listing, wrong_calls, places)

@@ -1,0 +1,57 @@
+"""The tool and the examples against the second program, which knows nothing of the tool."""
+
+import subprocess
+
+from jobtool.listing import listing
+
+from . import paper
+from .check import Case, equal, starts
+from .dst import edge_jobs
+from .made import EXAMPLES, NAMES, NARROW, answer_of, assembled, multiply_job, read
+
+
+def prints(second, *arguments, given=b""):
+    return subprocess.run([second, *arguments], input=given, capture_output=True, timeout=120).stdout.decode()
+
+
+def examples(second):
+    for name in NAMES:
+        printed = prints(second, "run", str(EXAMPLES / f"{name}.job"))
+        yield equal(f"{name}.job prints {name}.out", printed, read(name, "out").decode())
+
+
+def edges(second):
+    for text, answer in edge_jobs():
+        printed = prints(second, "run", "-", given=assembled(text))
+        yield starts(f"{text[:60]!r}.. prints {answer}", printed, answer)
+        width = 4 if text.startswith(NARROW) else 8
+        values = [value for line in printed.splitlines()[1:] for value in line.split()[2:]]
+        other = [value for value in values if len(value) != width]
+        yield equal(f"{text[:60]!r}.. prints {width} digits", other, [])
+
+
+def multiplies(second):
+    for form in range(14):
+        for flags in range(8):
+            data = multiply_job(form, flags, 512 if (form, flags) == (paper.BF16, 0) else 0)
+            printed = prints(second, "run", "-", given=data)
+            yield starts(f"a multiply in {form} with flags {flags} is run", printed, answer_of(data))
+
+
+def generated(second):
+    lines = prints(second, "vectors", "7", "300").splitlines()
+    kinds = set()
+    for n, line in enumerate(lines):
+        digits, _, printed = line.partition(" ")
+        data = bytes.fromhex(digits)
+        kinds.add((data[3:5] == bytes((paper.BF16, 0)), printed[:9]))
+        own = answer_of(data)
+        yield Case(f"generated job {n}", printed.startswith(own) and "|" in printed, own, printed[:30])
+        yield equal(f"generated job {n} listed and assembled", assembled(listing(data)), data)
+    yield equal("300 generated jobs", len(lines), 300)
+    wanted = {(bf16, start) for bf16 in (False, True) for start in ("finished ", "refused 1", "refused 8")}
+    yield equal("both kinds of Dst among them", sorted(wanted - kinds), [])
+    yield equal("BF16 Dst is never refused 5 or 7", sorted(kinds & {(True, "refused 5"), (True, "refused 7")}), [])
+
+
+GROUPS = (examples, edges, multiplies, generated)
