@@ -11,22 +11,21 @@ use borrow.Author.Tests.{eqb-true, eq-eqb, ltb-true, lt-ltb, le-ltb}
 use Rattle.cells.specs.Cells.{over, between, tabulate}
 use Rattle.cells.proofs.Cells.{split, both, length-over, over-in, between-in}
 use Rattle.cells.proofs.Tests.{each-of, below-of, of-below, set-keeps}
-use Rattle.control.specs.Record.{zeroSlot, startThread, start, threadAt, withThread}
+use Rattle.control.specs.Record.{zeroSlot, startThread, start, threadAt, withThread, withCounters}
 use Rattle.control.specs.Change.{clearBanks, applySlot, moveOn, setCounters, addCounters}
 use Rattle.control.specs.Range.{srcTests, dstTests, slotTests, slotOk, slotsOk, threadTests, threadOk, threadsOk, banksTests, settingsTests, rangeTests, inRange}
-use Rattle.word.specs.declared.Clear.{Clear}
-use Rattle.word.specs.declared.Operands.{Operands}
-use Rattle.word.specs.declared.Operands.the-variants as operands
+use Rattle.control.specs.declared.Src.{Src}
+use Rattle.control.specs.declared.Dst.{Dst}
 use Rattle.control.specs.declared.Slot.{Slot}
 use Rattle.control.specs.declared.Thread.{Thread}
 use Rattle.control.specs.declared.Control.{Control}
 use Rattle.control.proofs.Kept.{shared-bounds}
-use Rattle.rules.specs.After.{acting, recordAfter, controlAfter}
+use Rattle.rules.specs.After.{acting, controlAfter}
+use Rattle.rules.proofs.AfterKeeps.{Keeps, record-after-keeps, control-after-kept}
 use Rattle.rules.specs.declared.Verdict.{Verdict}
 use Rattle.rules.specs.declared.Verdict.the-variants as verdict
 use Rattle.cells.specs.State.{State}
 use Rattle.step.specs.Step.{verdictOf, ifDone, steppedOf}
-use Rattle.precheck.proofs.Kept.{after-kept}
 use Rattle.capi.specs.Record.{flag, threadNumbers, sharedNumbers, slotNumber, threadNumber, numberAt, byte, half, on, slotFrom, slotsFrom, threadFrom, controlFrom, readOf, numbersOf, stands, noRecord, recordOf, numbersAfter}
 use Rattle.capi.proofs.Steps.{reads-as, in-range-stands, stands-long, done-in-range}
 
@@ -212,25 +211,20 @@ with-thread-whole c t x w h =
 same-whole : (c d : Control) → d .threads ≡ c .threads → Whole c → Whole d
 same-whole c d e w = record { threads = ap length e ∙ w .threads; slots = λ t. ap (λ (l : List Thread). length (getD l t startThread .slots)) e ∙ w .slots t }
 
-clear-whole : (c : Control) (f : Clear) → Whole c → Whole (clearBanks c f)
-unfolding clearBanks
-clear-whole c f w = same-whole c _ refl w
+-- a thread whose slots stay
+counted-whole : (c : Control) (t : ℕ) (d : Dst) (a b : Src) (p : ℕ) → Whole c → Whole (withThread c t (withCounters (threadAt c t) d a b p))
+counted-whole c t d a b p w = with-thread-whole c t _ w (w .slots t)
 
-move-whole : (c : Control) (t n : ℕ) → Whole c → Whole (moveOn c t n)
-unfolding moveOn applySlot
-move-whole c t n w = with-thread-whole c t _ w (w .slots t)
-
-fields-whole : (c : Control) (t : ℕ) (f : Operands) → Whole c → Whole (recordAfter c t f)
-unfolding recordAfter setCounters addCounters
-fields-whole c t (operands.Multiply m) w = same-whole (moveOn (clearBanks c (m .clear)) t (m .slot)) _ refl (move-whole _ t (m .slot) (clear-whole c (m .clear) w))
-fields-whole c t (operands.Legacy l) w = move-whole _ t (l .slot) (clear-whole c (l .clear) w)
-fields-whole c t (operands.SetCounters s) w = let d = clear-whole c (s .clear) w in with-thread-whole _ t _ d (d .slots t)
-fields-whole c t (operands.AddCounters s) w = with-thread-whole c t _ w (w .slots t)
-fields-whole c t (operands.ZeroSrc z) w = w
-fields-whole c t (operands.ShiftA mode) w = w
-fields-whole c t (operands.ShiftB s) w = move-whole c t (s .slot) w
-fields-whole c t operands.NoEffect w = w
-fields-whole c t (operands.Scalar s) w = w
+whole-keeps : Keeps Whole
+unfolding clearBanks moveOn applySlot setCounters addCounters
+whole-keeps =
+    record {
+      clear = λ c f w. same-whole c _ refl w;
+      slot = λ c t n w. counted-whole c t _ _ _ _ w;
+      last = λ c n w. same-whole c _ refl w;
+      set = λ c t which d b a w. counted-whole c t _ _ _ _ w;
+      add = λ c t d b a w. counted-whole c t _ _ _ _ w;
+    }
 
 -- ---- steps can be chained: the numbers after a step stand for the record after it
 
@@ -242,7 +236,7 @@ chained l t w s = go (verdictOf (recordOf l) t w s) refl
         → recordOf (ifDone v (over (between 0 332) (numberAt (ifDone v (controlAfter (recordOf l) t w) (recordOf l))) l) l) ≡ ifDone v (controlAfter (recordOf l) t w) (recordOf l)
     go verdict.Done e =
         let r : inRange (recordOf l) ≡ true = done-in-range (recordOf l) t w s e in
-        round-trip (controlAfter (recordOf l) t w) l (fields-whole (recordOf l) t (acting w) (record-whole l)) (after-kept (recordOf l) t w r) (stands-long l (in-range-stands l r))
+        round-trip (controlAfter (recordOf l) t w) l (record-after-keeps Whole whole-keeps (recordOf l) t (acting w) (record-whole l)) (control-after-kept (recordOf l) t w r) (stands-long l (in-range-stands l r))
     go (verdict.Refused x) e = refl
 
 -- ---- the numbers of the record at the start are all 0

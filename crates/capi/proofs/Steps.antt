@@ -18,7 +18,6 @@ use Rattle.rules.specs.declared.Verdict.the-variants.{Done, Refused}
 use Rattle.cells.specs.State.{State, sized}
 use Rattle.step.specs.Step.{ifDone, steppedOf, stateOf, stepAnswer}
 use Rattle.step.specs.declared.Stepped.{Stepped}
-use Rattle.cells.proofs.Sizes.{Sizes, sized-of}
 use Rattle.step.proofs.Verdicts.{Left, by-length, by-record, by-thread}
 use Rattle.capi.specs.Record.{numberAt, readOf, numbersOf, stands, noRecord, recordOf, numbersAfter}
 
@@ -75,9 +74,6 @@ threadByte t = cond (ltb t 3) t 3
 refused-not-done : (x : Refusal) → Refused x ≡ Done → ⊥
 refused-not-done x e = let z : _≡_ {A = ℕ} 0 1 = cc in omega arith
 
-unsized : (s : State) → sized s ≡ false → Sizes s → ⊥
-unsized s z x = false≢true (sym z ∙ sized-of s x)
-
 module _ (c : Control) (t w : ℕ) (s : State) where
   -- threads out of range are refused alike
   same-thread : (steppedOf c (threadByte t) w s ≡ steppedOf c t w s) × (stateOf c (threadByte t) w s ≡ stateOf c t w s)
@@ -86,7 +82,7 @@ module _ (c : Control) (t w : ℕ) (s : State) where
       (λ e. rw e (refl, refl))
       (λ e. rw e (split (sized s)
       (λ z. alike (by-thread c 3 w s z (omega arith)) (by-thread c t w s z (ltb-false t 3 e)))
-      (λ z. alike (by-length c 3 w s (unsized s z)) (by-length c t w s (unsized s z)))))
+      (λ z. alike (by-length c 3 w s z) (by-length c t w s z))))
     where
       alike : {r : Stepped} {after : State} → Left c 3 w s r after → Left c t w s r after
           → (steppedOf c 3 w s ≡ steppedOf c t w s) × (stateOf c 3 w s ≡ stateOf c t w s)
@@ -97,7 +93,7 @@ module _ (c : Control) (t w : ℕ) (s : State) where
       split (inRange c) (λ e. e)
       (λ e. absurd (split (sized s)
       (λ z. never (by-record c t w s z e))
-      (λ z. never (by-length c t w s (unsized s z)))))
+      (λ z. never (by-length c t w s z))))
     where
       never : {x : Refusal} {after : State} → Left c t w s (record { verdict = Refused x; control = c }) after → ⊥
       never {x} p = refused-not-done x (ap (λ (r : Stepped). r .verdict) (p .answer) ∙ h)

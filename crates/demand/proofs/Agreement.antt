@@ -27,10 +27,16 @@ use Rattle.product.specs.Product.{rowsA, rowsB, rowsD, multiplied}
 use Rattle.product.proofs.Laws.{multiplied-agrees}
 use Rattle.rules.specs.declared.Reads.{Reads}
 use Rattle.rules.specs.declared.Unsets.{Unsets}
-use Rattle.rules.specs.Rows.{filledA, filledB, shiftedA, shiftedB}
-use Rattle.rules.specs.Access.{noSets, noUnsets, scalarB, readsOf, setsOf, unsetsOf}
+use Rattle.rules.specs.ZeroSrc.{filledA, filledB}
+use Rattle.rules.specs.Shifts.{shiftedA, shiftedB}
+use Rattle.rules.specs.Vocabulary.{noSets}
+use Rattle.rules.specs.Scalar.{scalarB}
+use Rattle.rules.specs.Access.{noUnsets, readsOf, setsOf, unsetsOf}
 use Rattle.cells.specs.Layout.{noSpan, cell, bankRow, register, span}
-use Rattle.step.specs.Effect.{productOf, rightward, leftward, shiftA, shiftB, computed, operandB, scalarResult, scalar, effectOf}
+use Rattle.step.specs.Multiply.{productOf}
+use Rattle.step.specs.Shifts.{rightward, leftward, shiftA, shiftB}
+use Rattle.step.specs.Scalar.{computed, operandB, scalarResult, scalar}
+use Rattle.step.specs.Effect.{effectOf}
 use Rattle.precheck.specs.Marks.{Marks, allSet, readsSet, instructionMarks}
 
 -- the mark of a place: its row's, or its own

@@ -1,13 +1,12 @@
 -- Which numbers the two Dst modes leave: of a word, and of the fields of a job. Assumes nothing.
 use mathlib.Core.Path.{_≡_, refl, sym, ap, _∙_}
-use mathlib.Core.Bool.{Bool, true, false, false≢true, not, _&&_, _||_}
+use mathlib.Core.Bool.{Bool, true, false, false≢true, not, _||_}
 use mathlib.Core.List.{List, [], _∷_}
 use mathlib.Core.Logic.{inl, inr, ⊎-elim}
 use Prim.Native.Nat.{ℕ, zero, suc}
 use native.Mathlib.Omega.{arith}
-use borrow.Author.Tests.{lt-leb, eqb-true, not-true}
-use lib.Dec.{leb, eqb}
-use Rattle.cells.specs.declared.Width.{Width}
+use borrow.Author.Tests.{eqb-true, not-true}
+use lib.Dec.{eqb}
 use Rattle.cells.specs.declared.Width.the-variants.{Bits32, Bits16}
 use Rattle.cells.specs.Places.{rowCount}
 use Rattle.cells.proofs.Cells.{split, both}
@@ -20,9 +19,10 @@ use Rattle.word.specs.declared.Operands.the-variants as operands
 use Rattle.control.specs.declared.Control.{Control}
 use Rattle.control.specs.declared.Settings.{Settings}
 use Rattle.control.specs.Record.{bf16Mode, widthOf}
-use Rattle.rules.specs.Rows.{rowDst}
-use Rattle.rules.specs.Rules.{Judged, rules, fp32Mode, unmodelled, rowWrong, operandRules as wordRules}
-use Rattle.rules.proofs.Places.{row-dst-below}
+use Rattle.rules.specs.Multiply.{fp32Mode}
+use Rattle.rules.specs.Rules.{Judged, rules, unmodelled, operandRules as wordRules}
+use Rattle.rules.proofs.Places.{row-never-wrong}
+use Rattle.rules.proofs.Classes.{multiply-alone}
 use Rattle.job.specs.Fields.{jobWidth}
 use Rattle.job.specs.declared.Write.{Write}
 use Rattle.job.specs.declared.Write.the-variants.{LoadSrc, LoadDst, LoadRegister, ZeroRows}
@@ -86,29 +86,25 @@ off false f n = refl
 
 -- ---- 5 exactly when neither mode is modelled
 
-both-off : (a b : Bool) → (not (a || b) || false) ≡ true → (a ≡ false) × (b ≡ false)
-both-off true b h = absurd (false≢true h)
-both-off false true h = absurd (false≢true h)
-both-off false false h = (refl, refl)
+or-off : (a b : Bool) → (a || b) ≡ false → (a ≡ false) × (b ≡ false)
+or-off true b h = absurd (false≢true (sym h))
+or-off false b h = (refl, h)
 
 module _ (c : Control) (w : ℕ) where
-  neither : (f : Operands) → wordOperands w ≡ f → (unmodelled c f || false) ≡ true → Unmodelled (c .settings) w
-  neither (operands.Multiply m) e h =
-      let b = both-off (fp32Mode (c .settings)) _ h in
+  neither : (unmodelled c (wordOperands w) || false) ≡ true → Unmodelled (c .settings) w
+  neither h =
+      let u = multiply-alone c (wordOperands w) (broken _ h) in
+      let b = or-off (fp32Mode (c .settings)) _ (u .settings) in
       record {
-        multiply = m;
-        word = e;
+        multiply = u .multiply;
+        word = u .is;
         not-fp32 = λ x. false≢true (sym (b .0) ∙ fp32-tested (c .settings) x);
         not-bf16 = λ x. false≢true (sym (b .1) ∙ bf16-tested (c .settings) x);
       }
-  neither (operands.Legacy l) e h = absurd (false≢true h)
-  neither (operands.SetCounters s) e h = absurd (false≢true h)
-  neither (operands.AddCounters s) e h = absurd (false≢true h)
-  neither (operands.ZeroSrc z) e h = absurd (false≢true h)
-  neither (operands.ShiftA mode) e h = absurd (false≢true h)
-  neither (operands.ShiftB s) e h = absurd (false≢true h)
-  neither operands.NoEffect e h = absurd (false≢true h)
-  neither (operands.Scalar s) e h = absurd (false≢true h)
+    where
+      broken : (b : Bool) → (b || false) ≡ true → b ≡ true
+      broken true h = refl
+      broken false h = h
 
 -- ---- a rule goes by its number
 
@@ -123,18 +119,7 @@ breaks-same q r e job c m [] k = refl
 breaks-same q r e job c m (f ∷ fs) zero = rule-same q r e (fieldRules c m (f .kind))
 breaks-same q r e job c m (f ∷ fs) (suc k) = breaks-same q r e job (fieldControl job c (f .place) (f .kind)) (fieldMarks c m (f .kind)) fs k
 
--- ---- no 7 in the BF16 mode: a masked row is below 1,024
-
-row-right : (c : Control) (t : ℕ) (f : Operands) → widthOf (c .settings) ≡ Bits16 → rowWrong c t f ≡ false
-row-right c t (operands.Multiply m) q = ap (λ (v : Width). leb (rowCount v) (rowDst c t m)) q ∙ lt-leb (rowCount Bits16) (rowDst c t m) (row-dst-below c t m)
-row-right c t (operands.Legacy l) q = refl
-row-right c t (operands.SetCounters s) q = refl
-row-right c t (operands.AddCounters s) q = refl
-row-right c t (operands.ZeroSrc z) q = refl
-row-right c t (operands.ShiftA mode) q = refl
-row-right c t (operands.ShiftB s) q = refl
-row-right c t operands.NoEffect q = refl
-row-right c t (operands.Scalar s) q = refl
+-- ---- no 7 in the BF16 mode
 
 -- the rules of a field
 write-right : (c : Control) (x : Write) → brokenRule DstRow (writeRules c x) ≡ false
@@ -152,7 +137,7 @@ output-right m (Register t r) = refl
 field-right : (c : Control) (m : Marks) (k : Kind) → (isIssue k ≡ true → widthOf (c .settings) ≡ Bits16) → brokenRule DstRow (fieldRules c m k) ≡ false
 unfolding brokenRule fieldRules rules wordRules
 field-right c m kind.Settings q = refl
-field-right c m (kind.Issue t w) q = ap (λ (b : Bool). b || false) (row-right c t (wordOperands w) (q refl))
+field-right c m (kind.Issue t w) q = ap (λ (b : Bool). b || false) (row-never-wrong c t (wordOperands w) (q refl))
 field-right c m (kind.HandOver file) q = refl
 field-right c m (kind.Writes x) q = write-right c x
 field-right c m (kind.Prints o) q = output-right m o
@@ -170,13 +155,13 @@ none-breaks-seven job q (f ∷ fs) c m x (suc k) = none-breaks-seven job q fs (f
 module _ (c : Control) (t w : ℕ) where
   not-seven : widthOf (c .settings) ≡ Bits16 → brokenRule DstRow (rules c t w) ≡ false
   unfolding brokenRule rules wordRules
-  not-seven q = ap (λ (b : Bool). b || false) (row-right c t (wordOperands w) q)
+  not-seven q = ap (λ (b : Bool). b || false) (row-never-wrong c t (wordOperands w) q)
 
   pub word-modes : WordModes c t w
   unfolding brokenRule rules wordRules
   word-modes =
       record {
-        unmodelled = λ h. neither c w (wordOperands w) refl h;
+        unmodelled = λ h. neither c w h;
         five = λ u. ap (λ (f : Operands). unmodelled c f || false) (u .word)
             ∙ (λ i. not (off (fp32Mode (c .settings)) (in-fp32 (c .settings)) (u .not-fp32) i || off _ (in-bf16 (c .settings)) (u .not-bf16) i) || false);
         not-seven = λ m. not-seven (settings-modes (c .settings) .halves m);

@@ -6,15 +6,11 @@ use Prim.Native.Nat.{ℕ, _≤_}
 use native.Mathlib.Omega.{arith}
 use Rattle.cells.specs.declared.layout.File.{File}
 use Rattle.cells.specs.declared.layout.File.the-variants.{A, B}
-use Rattle.word.specs.declared.Operands.{Operands}
-use Rattle.word.specs.declared.Operands.the-variants as operands
 use Rattle.control.specs.declared.Control.{Control}
-use Rattle.control.specs.Record.{threadAt}
 use Rattle.control.specs.Range.{inRange}
-use Rattle.control.specs.Change.{clearBanks, moveOn, setCounters, addCounters}
-use Rattle.control.proofs.Kept.{clear-kept, hand-kept-a, hand-kept-b, last-kept, move-kept, set-kept, add-kept}
-use Rattle.rules.specs.Rows.{rowA}
-use Rattle.rules.specs.After.{acting, recordAfter, controlAfter}
+use Rattle.control.proofs.Kept.{hand-kept-a, hand-kept-b}
+use Rattle.rules.specs.After.{acting, controlAfter}
+use Rattle.rules.proofs.AfterKeeps.{control-after-kept, record-after-settings}
 use Rattle.job.specs.Fields.{payloadAt}
 use Rattle.job.specs.declared.Kind.{Kind}
 use Rattle.job.specs.declared.Kind.the-variants.{Settings, Issue, HandOver, Writes, Prints, Wrong}
@@ -24,23 +20,6 @@ use Rattle.job.proofs.Settled.{right-kept, settings-field}
 use Rattle.walk.specs.FieldRecord.{handedOver, fieldControl, issueOf}
 
 -- ---- in range
-
-fields-kept : (c : Control) (t : ℕ) (f : Operands) → inRange c ≡ true → inRange (recordAfter c t f) ≡ true
-unfolding recordAfter rowA
-fields-kept c t (operands.Multiply m) h =
-    last-kept (moveOn (clearBanks c (m .clear)) t (m .slot)) (threadAt c t .a .at .0) (move-kept _ t (m .slot) (clear-kept c (m .clear) h))
-fields-kept c t (operands.Legacy l) h = move-kept _ t (l .slot) (clear-kept c (l .clear) h)
-fields-kept c t (operands.SetCounters s) h = set-kept _ t (s .which) (s .d) (s .b) (s .a) (clear-kept c (s .clear) h)
-fields-kept c t (operands.AddCounters s) h = add-kept c t (s .d) (s .b) (s .a) h
-fields-kept c t (operands.ZeroSrc z) h = h
-fields-kept c t (operands.ShiftA mode) h = h
-fields-kept c t (operands.ShiftB s) h = move-kept c t (s .slot) h
-fields-kept c t operands.NoEffect h = h
-fields-kept c t (operands.Scalar s) h = h
-
-pub after-kept : (c : Control) (t w : ℕ) → inRange c ≡ true → inRange (controlAfter c t w) ≡ true
-unfolding controlAfter
-after-kept c t w h = fields-kept c t (acting w) h
 
 hand-kept : (c : Control) (file : File) → inRange c ≡ true → inRange (handedOver c file) ≡ true
 hand-kept c A h = hand-kept-a c h
@@ -54,25 +33,13 @@ control-kept job c f h s = go (f .kind) refl
     go Settings e =
         let x = settings-field job f s e in
         ap inRange (x .settles c) ∙ right-kept c (payloadAt job (f .place)) h (x .right)
-    go (Issue t w) e = after-kept c t w h
+    go (Issue t w) e = control-after-kept c t w h
     go (HandOver file) e = hand-kept c file h
     go (Writes x) e = h
     go (Prints o) e = h
     go (Wrong x) e = h
 
 -- ---- the settings
-
-fields-settings : (c : Control) (t : ℕ) (f : Operands) → recordAfter c t f .settings ≡ c .settings
-unfolding recordAfter clearBanks moveOn setCounters addCounters
-fields-settings c t (operands.Multiply m) = refl
-fields-settings c t (operands.Legacy l) = refl
-fields-settings c t (operands.SetCounters s) = refl
-fields-settings c t (operands.AddCounters s) = refl
-fields-settings c t (operands.ZeroSrc z) = refl
-fields-settings c t (operands.ShiftA mode) = refl
-fields-settings c t (operands.ShiftB s) = refl
-fields-settings c t operands.NoEffect = refl
-fields-settings c t (operands.Scalar s) = refl
 
 hand-settings : (c : Control) (file : File) → handedOver c file .settings ≡ c .settings
 hand-settings c A = refl
@@ -81,7 +48,7 @@ hand-settings c B = refl
 pub settings-stay : (job : List ℕ) (c : Control) (place : ℕ) (k : Kind) → (k ≡ Settings → ⊥) → fieldControl job c place k .settings ≡ c .settings
 unfolding fieldControl controlAfter
 settings-stay job c place Settings n = absurd (n refl)
-settings-stay job c place (Issue t w) n = fields-settings c t (acting w)
+settings-stay job c place (Issue t w) n = record-after-settings c t (acting w)
 settings-stay job c place (HandOver file) n = hand-settings c file
 settings-stay job c place (Writes x) n = refl
 settings-stay job c place (Prints o) n = refl

@@ -1,0 +1,123 @@
+-- `rules::instructions::judge_operands` meets its contract. Assumes nothing.
+use Rattle.rules.specs.Rules.{operandRules, lowest}
+use borrow.Author.Needs.{needs}
+use Rattle.rules.proofs.instructions.judge_operands.Statement.{statement}
+use Rattle.rules.proofs.instructions.judge_operands.Tie as tie
+
+enum-known-f : tie.Need-enum-known-f
+enum-known-f c = search needs
+
+judge-multiply-requires : tie.Need-judge-multiply-requires
+judge-multiply-requires c κs = search needs
+
+enum-told : tie.Need-enum-told
+enum-told c = search needs
+
+both-owned-requires : tie.Need-both-owned-requires
+both-owned-requires c κs = search needs
+
+refused-if-requires : tie.Need-refused-if-requires
+refused-if-requires c κs = search needs
+
+enum-known-f-2 : tie.Need-enum-known-f-2
+enum-known-f-2 c = search needs
+
+refused-if-requires-2 : tie.Need-refused-if-requires-2
+refused-if-requires-2 c κs = search needs
+
+enum-known-f-3 : tie.Need-enum-known-f-3
+enum-known-f-3 c = search needs
+
+refused-if-requires-3 : tie.Need-refused-if-requires-3
+refused-if-requires-3 c κs = search needs
+
+enum-told-2 : tie.Need-enum-told-2
+enum-told-2 c = search needs
+
+enum-known-f-4 : tie.Need-enum-known-f-4
+enum-known-f-4 c = search needs
+
+judge-shift-a-requires : tie.Need-judge-shift-a-requires
+judge-shift-a-requires c κs = search needs
+
+enum-told-3 : tie.Need-enum-told-3
+enum-told-3 c = search needs
+
+judge-shift-b-requires : tie.Need-judge-shift-b-requires
+judge-shift-b-requires c κs = search needs
+
+enum-told-4 : tie.Need-enum-told-4
+enum-told-4 c = search needs
+
+enum-known-f-5 : tie.Need-enum-known-f-5
+enum-known-f-5 c = search needs
+
+judge-scalar-requires : tie.Need-judge-scalar-requires
+judge-scalar-requires c κs = search needs
+
+returns : tie.Need-returns
+unfolding operandRules lowest
+returns c = simp ((c .judge-multiply .ensures), (c .before .before .f .given .1))
+
+returns-2 : tie.Need-returns-2
+unfolding operandRules lowest
+returns-2 c = simp ((c .refused-if .ensures), (c .before .both-owned .ensures), (c .before .before .enum-told .given .1))
+
+returns-3 : tie.Need-returns-3
+unfolding operandRules lowest
+returns-3 c = simp ((c .refused-if2 .ensures), (c .before .before .before .f2 .given .1))
+
+returns-4 : tie.Need-returns-4
+unfolding operandRules lowest
+returns-4 c = simp ((c .refused-if3 .ensures), (c .before .before .before .f3 .given .1))
+
+returns-5 : tie.Need-returns-5
+unfolding operandRules lowest
+returns-5 c = simp (c .enum-told2 .given .1)
+
+returns-6 : tie.Need-returns-6
+unfolding operandRules lowest
+returns-6 c = simp ((c .judge-shift-a .ensures), (c .before .before .f4 .given .1))
+
+returns-7 : tie.Need-returns-7
+unfolding operandRules lowest
+returns-7 c = simp ((c .judge-shift-b .ensures), (c .before .enum-told3 .given .1))
+
+returns-8 : tie.Need-returns-8
+unfolding operandRules lowest
+returns-8 c = simp (c .enum-told4 .given .1)
+
+returns-9 : tie.Need-returns-9
+unfolding operandRules lowest
+returns-9 c = simp ((c .judge-scalar .ensures), (c .before .before .f5 .given .1))
+
+pub judge-operands-spec : {M : Type 1} → statement M
+judge-operands-spec =
+    tie.close
+    (tie.spec
+    enum-known-f
+    judge-multiply-requires
+    enum-told
+    both-owned-requires
+    refused-if-requires
+    enum-known-f-2
+    refused-if-requires-2
+    enum-known-f-3
+    refused-if-requires-3
+    enum-told-2
+    enum-known-f-4
+    judge-shift-a-requires
+    enum-told-3
+    judge-shift-b-requires
+    enum-told-4
+    enum-known-f-5
+    judge-scalar-requires
+    returns
+    returns-2
+    returns-3
+    returns-4
+    returns-5
+    returns-6
+    returns-7
+    returns-8
+    returns-9)

@@ -1,0 +1,48 @@
+-- `rules::multiply::multiply_reads` meets its contract. Assumes nothing.
+use Rattle.rules.specs.Multiply.{rowA, rowB, rowDst}
+use Rattle.rules.specs.Access.{readsOf}
+use borrow.Author.Needs.{needs}
+use Rattle.rules.proofs.multiply.multiply_reads.Statement.{statement}
+use Rattle.rules.proofs.multiply.multiply_reads.Tie as tie
+
+thread-at-requires : tie.Need-thread-at-requires
+thread-at-requires c κs = search needs
+
+height-rows-requires : tie.Need-height-rows-requires
+height-rows-requires c κs = search needs
+
+row-a-requires : tie.Need-row-a-requires
+row-a-requires c κs = search needs
+
+bank-row-requires : tie.Need-bank-row-requires
+bank-row-requires c κs = search needs
+
+row-b-requires : tie.Need-row-b-requires
+row-b-requires c κs = search needs
+
+bank-row-requires-2 : tie.Need-bank-row-requires-2
+bank-row-requires-2 c κs = search needs
+
+row-dst-requires : tie.Need-row-dst-requires
+row-dst-requires c κs = search needs
+
+no-reads-requires : tie.Need-no-reads-requires
+no-reads-requires c κs = search needs
+
+returns : tie.Need-returns
+unfolding readsOf rowA rowB rowDst
+returns c = simp (c .no-reads .ensures, c .before .row-dst .ensures, c .before .before .bank-row2 .ensures, c .before .before .before .row-b .ensures, c .before .before .before .before .bank-row .ensures, c .before .before .before .before .before .row-a .ensures, c .before .before .before .before .before .before .height-rows .ensures, c .before .before .before .before .before .before .before .thread-at .ensures)
+
+pub multiply-reads-spec : {M : Type 1} → statement M
+multiply-reads-spec =
+    tie.close
+    (tie.spec
+    thread-at-requires
+    height-rows-requires
+    row-a-requires
+    bank-row-requires
+    row-b-requires
+    bank-row-requires-2
+    row-dst-requires
+    no-reads-requires
+    returns)

@@ -1,0 +1,16 @@
+-- `rules::scalar::judge_scalar` meets its contract. Assumes nothing.
+use borrow.Author.Needs.{needs}
+use Rattle.rules.proofs.scalar.judge_scalar.Statement.{statement}
+use Rattle.rules.proofs.scalar.judge_scalar.Tie as tie
+
+scalar-modes-requires : tie.Need-scalar-modes-requires
+scalar-modes-requires c κs = search needs
+
+refused-if-requires : tie.Need-refused-if-requires
+refused-if-requires c κs = search needs
+
+returns : tie.Need-returns
+returns c = simp ((c .refused-if .ensures), (c .before .before .scalar-modes .ensures))
+
+pub judge-scalar-spec : {M : Type 1} → statement M
+judge-scalar-spec = tie.close (tie.spec scalar-modes-requires refused-if-requires returns)

@@ -1,0 +1,24 @@
+-- `rules::shifts::judge_shift_a` meets its contract. Assumes nothing.
+use Rattle.rules.specs.Rules.{operandRules, lowest}
+use borrow.Author.Tests.{lt-ltb, le-ltb}
+use borrow.Author.Needs.{needs}
+use Rattle.rules.proofs.shifts.judge_shift_a.Statement.{statement}
+use Rattle.rules.proofs.shifts.judge_shift_a.Tie as tie
+
+returns : tie.Need-returns
+unfolding operandRules lowest
+returns c = simp (lt-ltb _ _ (c .if1 .taken))
+
+matrix-owns-requires : tie.Need-matrix-owns-requires
+matrix-owns-requires c κs = search needs
+
+refused-if-requires : tie.Need-refused-if-requires
+refused-if-requires c κs = search needs
+
+returns-2 : tie.Need-returns-2
+unfolding operandRules lowest
+returns-2 c = simp (le-ltb _ _ (c .before .before .before .if1 .left), (c .refused-if .ensures), (c .before .matrix-owns .ensures))
+
+pub judge-shift-a-spec : {M : Type 1} → statement M
+judge-shift-a-spec =
+    tie.close (tie.spec returns matrix-owns-requires refused-if-requires returns-2)

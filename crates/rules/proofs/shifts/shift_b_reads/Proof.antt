@@ -1,0 +1,18 @@
+-- `rules::shifts::shift_b_reads` meets its contract. Assumes nothing.
+use Rattle.rules.specs.Access.{readsOf}
+use borrow.Author.Needs.{needs}
+use Rattle.rules.proofs.shifts.shift_b_reads.Statement.{statement}
+use Rattle.rules.proofs.shifts.shift_b_reads.Tie as tie
+
+shifted-b-requires : tie.Need-shifted-b-requires
+shifted-b-requires c κs = search needs
+
+no-reads-requires : tie.Need-no-reads-requires
+no-reads-requires c κs = search needs
+
+returns : tie.Need-returns
+unfolding readsOf
+returns c = simp ((c .no-reads .ensures), (c .before .shifted-b .ensures))
+
+pub shift-b-reads-spec : {M : Type 1} → statement M
+shift-b-reads-spec = tie.close (tie.spec shifted-b-requires no-reads-requires returns)

@@ -1,0 +1,16 @@
+-- `rules::vocabulary::both_owned` meets its contract. Assumes nothing.
+use borrow.Author.Needs.{needs}
+use Rattle.rules.proofs.vocabulary.both_owned.Statement.{statement}
+use Rattle.rules.proofs.vocabulary.both_owned.Tie as tie
+
+matrix-owns-requires : tie.Need-matrix-owns-requires
+matrix-owns-requires c κs = search needs
+
+matrix-owns-requires-2 : tie.Need-matrix-owns-requires-2
+matrix-owns-requires-2 c κs = search needs
+
+returns : tie.Need-returns
+returns c = simp ((c .matrix-owns2 .ensures), (c .before .matrix-owns .ensures))
+
+pub both-owned-spec : {M : Type 1} → statement M
+both-owned-spec = tie.close (tie.spec matrix-owns-requires matrix-owns-requires-2 returns)

@@ -1,0 +1,144 @@
+// MVMUL, DOTPV, GAPOOL: all but the numbers.
+use crate::Reads;
+use crate::Verdict;
+use crate::vocabulary;
+use cells::Span;
+use control::Control;
+use control::Settings;
+use control::Thread;
+use word::Height;
+use word::Multiply;
+use word::Refusal;
+ghost use mathlib.Core.Path.{_≡_};
+ghost use Prim.Native.Nat.{_+_};
+ghost use lib.Bits.{bitAnd};
+ghost use lib.Dec.{leb};
+ghost use Rattle.cells.specs.Places.{rowCount};
+ghost use Rattle.word.specs.declared.Operands.the-variants as operands;
+ghost use Rattle.control.specs.Record.{widthOf};
+ghost use Rattle.rules.specs.Multiply.{heightRows, multiplyModes, modelled, countedA, countedB, heightMask, countedDst, countedPhase};
+ghost use Rattle.rules.specs.Access.{readsOf};
+ghost use Rattle.rules.specs.Rules.{operandRules, lowest};
+
+pub fn height_rows(height: Height) -> u32
+    ensures { λ r. ⌜ r ≡ heightRows height ⌝ }
+{
+    match height {
+        Height::Eight => 8,
+        Height::Four => 4,
+    }
+}
+
+fn multiply_modes(height: Height) -> u32
+    ensures { λ r. ⌜ r ≡ multiplyModes height ⌝ }
+{
+    match height {
+        Height::Eight => 1,
+        Height::Four => 2,
+    }
+}
+
+// Both modes at once: format 2 in either, format 6 with Fp32 on.
+fn is_modelled(s: Settings) -> bool
+    ensures { λ r. ⌜ r ≡ modelled s ⌝ }
+{
+    !s.int8 & !s.fp16a & ((s.format == 2) | (s.fp32 & (s.format == 6)))
+}
+
+// ---- the rows, by the counters of a thread
+
+pub fn row_a(x: Thread) -> u8
+    ensures { λ r. ⌜ r ≡ countedA x ⌝ }
+{
+    x.a.at.0 & 0x30
+}
+
+pub fn row_b(x: Thread) -> u8
+    ensures { λ r. ⌜ r ≡ countedB x ⌝ }
+{
+    x.b.at.0 & 0x38
+}
+
+fn dst_sum(dst: u32, offset: u16, at: u16, base: u16) -> u64
+    ensures { λ r. ⌜ r ≡ dst + offset + at + base ⌝ }
+{
+    dst as u64 + offset as u64 + at as u64 + base as u64
+}
+
+fn masked(height: Height, sum: u64) -> u32
+    ensures { λ r. ⌜ r ≡ bitAnd sum (heightMask height) ⌝ }
+{
+    match height {
+        Height::Eight => (sum & 0x3F8) as u32,
+        Height::Four => (sum & 0x3FC) as u32,
+    }
+}
+
+// The first Dst row: the sum is masked, and never taken modulo 512.
+pub fn row_dst(base: u16, x: Thread, height: Height, dst: u32) -> u32
+    ensures { λ r. ⌜ r ≡ countedDst base x height dst ⌝ }
+{
+    masked(height, dst_sum(dst, x.offset, x.dst.at.0, base))
+}
+
+pub fn phase_of(x: Thread) -> u8
+    ensures { λ r. ⌜ r ≡ countedPhase x ⌝ }
+{
+    (x.phase % 4 + x.fidelity % 4) % 4
+}
+
+// ---- all of it
+
+pub(crate) fn multiply_reads(c: Control, thread: u8, m: Multiply) -> Reads
+    ensures { λ r. ⌜ r ≡ readsOf c thread (operands.Multiply m) ⌝ }
+{
+    let x = control::thread_at(c, thread);
+    let height = m.height;
+    let count = height_rows(height);
+    let a = Span {
+        first: cells::bank_row(c.a.matrix, row_a(x)),
+        count: 16,
+    };
+    let b = Span {
+        first: cells::bank_row(c.b.matrix, row_b(x)),
+        count,
+    };
+    let dst = Span {
+        first: row_dst(c.settings.base, x, height, m.dst),
+        count,
+    };
+    let mut r = vocabulary::no_reads();
+    r.a = a;
+    r.b = b;
+    r.dst = dst;
+    r
+}
+
+// A row below 512 is inside Dst whatever its width.
+fn past_end(s: Settings, row: u32) -> bool
+    ensures { λ r. ⌜ r ≡ leb (rowCount (widthOf s)) row ⌝ }
+{
+    if row < cells::DST_ROWS {
+        return false;
+    }
+    cells::row_count(control::width_of(s)) <= row
+}
+
+pub(crate) fn judge_multiply(c: Control, thread: u8, m: Multiply) -> Verdict
+    ensures { λ r. ⌜ r ≡ lowest (operandRules c thread (operands.Multiply m)) ⌝ }
+{
+    let height = m.height;
+    if multiply_modes(height) <= m.mode {
+        return Verdict::Refused(Refusal::UndefinedMode);
+    }
+    let s = c.settings;
+    if is_modelled(s) {
+        if vocabulary::both_owned(c) {
+            let x = control::thread_at(c, thread);
+            let row = row_dst(c.settings.base, x, height, m.dst);
+            return vocabulary::refused_if(past_end(s, row), Refusal::DstRow);
+        }
+        return Verdict::Refused(Refusal::BankOwner);
+    }
+    Verdict::Refused(Refusal::UnmodelledSettings)
+}
