@@ -51,29 +51,37 @@ uint64_t vintrazzola_run(const uint8_t *job, size_t job_length,
                          uint32_t *dst, size_t dst_length,
                          uint32_t *registers, size_t registers_length);
 
-/* The control record of a single step: 332 numbers. The record at the start is all 0.
+/* The control record of a single step: VINTRAZZOLA_RECORD numbers. The record at the start is all 0.
 
    A flag is 0 or 1. Counters and carries are 0..63 for SrcA and SrcB and 0..1023 for Dst, FidelityPhase 0..3, pointers
    0 or 1, the last SrcA row 0, 16, 32 or 48; settings and slots are as a job's settings field may have them.
 
-   0..4    SrcA format, Fp32 (flag), INT8 (flag), FP16A force (flag), DEST_REGW_BASE
-   5..8    SrcA's banks: matrix unit's pointer, unpackers' pointer, the matrix unit owns bank 0 (flag), bank 1 (flag)
-   9..12   SrcB's banks, the same
-   13      the last SrcA row
-   then thread t from VINTRAZZOLA_THREAD(t) on:
-   0..9    Dst, Dst_Cr, SrcA, SrcA_Cr, SrcB, SrcB_Cr, FidelityPhase, ExtraAddrModBit (flag), math offset, fidelity base
-   and its slot s from VINTRAZZOLA_SLOT(t, s) on:
-   0..2    SrcA step, clear (flag), carry (flag)
-   3..5    SrcB step, clear (flag), carry (flag)
-   6..9    Dst step, clear (flag), carry (flag), copy (flag)
-   10..11  fidelity step, clear (flag) */
-#define VINTRAZZOLA_RECORD 332
+   From each of these places on, in this order:
+   VINTRAZZOLA_SETTINGS     SrcA format, Fp32 (flag), INT8 (flag), FP16A force (flag), DEST_REGW_BASE
+   VINTRAZZOLA_BANKS_A      SrcA's banks: matrix unit's pointer, unpackers' pointer, the matrix unit owns bank 0 (flag),
+                            bank 1 (flag)
+   VINTRAZZOLA_BANKS_B      SrcB's banks, the same
+   VINTRAZZOLA_LAST_ROW     the last SrcA row
+   VINTRAZZOLA_THREAD(t)    Dst, Dst_Cr, SrcA, SrcA_Cr, SrcB, SrcB_Cr, FidelityPhase, ExtraAddrModBit (flag), math offset,
+                            fidelity base
+   VINTRAZZOLA_SLOT(t, s)   SrcA step, clear (flag), carry (flag); SrcB step, clear (flag), carry (flag);
+                            Dst step, clear (flag), carry (flag), copy (flag); fidelity step, clear (flag) */
+
+/* How many numbers the settings have, the banks of a file, a thread of its own, a slot. */
+#define VINTRAZZOLA_SETTINGS_LENGTH 5
+#define VINTRAZZOLA_BANKS_LENGTH 4
+#define VINTRAZZOLA_OWN_LENGTH 10
+#define VINTRAZZOLA_SLOT_LENGTH 12
+
+/* What follows, for three threads of eight slots. */
 #define VINTRAZZOLA_SETTINGS 0
-#define VINTRAZZOLA_BANKS_A 5
-#define VINTRAZZOLA_BANKS_B 9
-#define VINTRAZZOLA_LAST_ROW 13
-#define VINTRAZZOLA_THREAD(t) (14 + 106 * (t))
-#define VINTRAZZOLA_SLOT(t, s) (VINTRAZZOLA_THREAD(t) + 10 + 12 * (s))
+#define VINTRAZZOLA_BANKS_A (VINTRAZZOLA_SETTINGS + VINTRAZZOLA_SETTINGS_LENGTH)
+#define VINTRAZZOLA_BANKS_B (VINTRAZZOLA_BANKS_A + VINTRAZZOLA_BANKS_LENGTH)
+#define VINTRAZZOLA_LAST_ROW (VINTRAZZOLA_BANKS_B + VINTRAZZOLA_BANKS_LENGTH)
+#define VINTRAZZOLA_THREAD_LENGTH (VINTRAZZOLA_OWN_LENGTH + 8 * VINTRAZZOLA_SLOT_LENGTH)
+#define VINTRAZZOLA_THREAD(t) (VINTRAZZOLA_LAST_ROW + 1 + VINTRAZZOLA_THREAD_LENGTH * (t))
+#define VINTRAZZOLA_SLOT(t, s) (VINTRAZZOLA_THREAD(t) + VINTRAZZOLA_OWN_LENGTH + VINTRAZZOLA_SLOT_LENGTH * (s))
+#define VINTRAZZOLA_RECORD VINTRAZZOLA_THREAD(3)
 
 /* One instruction of a thread 0..2 on the record and the four files. Done, the answer is 0, and record and files hold
    what the instruction leaves, so that the next step can go on with them. Refused, every number is as it came: 9 for a
@@ -86,9 +94,13 @@ uint64_t vintrazzola_step(uint32_t *record, size_t record_length, uint32_t threa
                           uint32_t *registers, size_t registers_length);
 
 /* The parts of an answer. */
-static inline int vintrazzola_refused(uint64_t answer) { return (int)(answer >> 63); }
-static inline uint32_t vintrazzola_number(uint64_t answer) { return (uint32_t)(answer >> 32) & 0x7FFFFFFF; }
-static inline uint32_t vintrazzola_place(uint64_t answer) { return (uint32_t)answer; }
+#define VINTRAZZOLA_REFUSAL_BIT ((uint64_t)1 << 63)
+#define VINTRAZZOLA_NUMBER_UNIT ((uint64_t)1 << 32)
+static inline int vintrazzola_refused(uint64_t answer) { return answer >= VINTRAZZOLA_REFUSAL_BIT; }
+static inline uint32_t vintrazzola_number(uint64_t answer) {
+    return (uint32_t)(answer / VINTRAZZOLA_NUMBER_UNIT % (VINTRAZZOLA_REFUSAL_BIT / VINTRAZZOLA_NUMBER_UNIT));
+}
+static inline uint32_t vintrazzola_place(uint64_t answer) { return (uint32_t)(answer % VINTRAZZOLA_NUMBER_UNIT); }
 
 #ifdef __cplusplus
 }

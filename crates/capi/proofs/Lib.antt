@@ -1,4 +1,4 @@
--- That no packed answer and no record loses anything.
+-- That no packed answer loses anything, and that steps can be chained.
 mod Steps
 pub mod Unpacked
 pub mod Chained

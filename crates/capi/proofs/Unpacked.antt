@@ -3,14 +3,15 @@
 use mathlib.Core.Path.{_≡_, refl}
 use mathlib.Core.Bool.{true}
 use mathlib.Core.List.{List, [], _∷_}
-use Prim.Native.Nat.{ℕ, zero, suc, _+_, _*_, _/_, _%_, _≤_}
+use Prim.Native.Nat.{ℕ, zero, suc, _+_, _*_, _/_, _%_, _<_, _≤_}
 use native.Mathlib.Omega.{arith}
 use borrow.Author.Tests.{leb-true, ltb-true, ltb-false, lt-ltb, le-ltb, ne-eqb}
 use lib.Dec.{leb, ltb, eqb}
 use lib.ListN.{length}
+use Rattle.cells.specs.Layout.{jobBytes}
 use Rattle.cells.proofs.Cells.{split}
+use Rattle.word.proofs.Numbers.{number-byte}
 use Rattle.word.specs.Refusal.{numberOf, Answer, done, finished, refused}
-use Rattle.word.specs.declared.Refusal.{Refusal}
 use Rattle.word.specs.declared.Refusal.the-variants as refusal
 use Rattle.control.specs.declared.Control.{Control}
 use Rattle.control.specs.Record.{start}
@@ -20,69 +21,59 @@ use Rattle.rules.specs.declared.Verdict.the-variants as verdict
 use Rattle.cells.specs.State.{State, sized}
 use Rattle.step.specs.Step.{steppedOf, stepAnswer}
 use Rattle.job.specs.Fields.{jobWidth, fieldAt, fieldsFrom}
-use Rattle.job.specs.Shape.{classOf, stageAfter, shapeFrom, shapeOf}
+use Rattle.job.specs.Shape.{shapeOf}
 use Rattle.job.specs.declared.Field.{Field}
 use Rattle.job.specs.declared.Shape.{Shape}
 use Rattle.job.specs.declared.Shape.the-variants as shape
 use Rattle.job.proofs.Walk.{grows, ends, place-at, fields-end, fields-step}
-use Rattle.job.proofs.Shaped.{shaped}
+use Rattle.job.proofs.Shaped.{shaped, shape-inside}
 use Rattle.precheck.specs.Marks.{unset}
-use Rattle.precheck.specs.Fields.{fieldRules}
-use Rattle.precheck.specs.Check.{issueOf, unlessBroken, checkFrom, precheckOf, checkedAnswer, precheckAnswer}
+use Rattle.walk.specs.FieldRecord.{issueOf}
+use Rattle.walk.proofs.RecordKept.{issue-most}
+use Rattle.precheck.specs.Judging.{fieldRules}
+use Rattle.precheck.specs.Check.{unlessBroken, checkFrom, precheckOf, checkedAnswer, precheckAnswer}
 use Rattle.precheck.specs.Marks.{Marks}
 use Rattle.precheck.specs.declared.Checked.{Checked}
 use Rattle.precheck.specs.declared.Checked.the-variants as checked
-use Rattle.precheck.proofs.Walk.{issue-most, precheck-right, precheck-wrong, precheck-passed}
+use Rattle.precheck.proofs.Checking.{precheck-right, precheck-wrong, precheck-passed}
 use Rattle.run.specs.Perform.{stepVerdict}
 use Rattle.run.specs.Run.{Ran, unlessRefused, execute, runOf, outcomeAnswer, runAnswer}
-use Rattle.run.proofs.Turns.{run-unsized, run-refused, run-passed}
-use Rattle.capi.specs.Packed.{packed, unpackedRefusal, unpacked, unpackedStep}
+use Rattle.run.proofs.Running.{run-unsized, run-refused, run-passed}
+use Rattle.capi.specs.Packed.{refusalBit, numberUnit, packed, unpackedRefusal, unpacked, unpackedStep}
 
 -- ---- small answers
 
 -- a job's answer whose count or place is at most 8,192
 abbrev Small : Answer → Type 0
 Small done = ⊥
-Small (finished n) = n ≤ 8192
-Small (refused number place) = (number ≤ 10) × (place ≤ 8192)
-
-number-small : (r : Refusal) → numberOf r ≤ 10
-number-small refusal.StateLength = omega arith
-number-small refusal.Shape = omega arith
-number-small refusal.UnknownOpcode = omega arith
-number-small refusal.UnnamedBit = omega arith
-number-small refusal.UndefinedMode = omega arith
-number-small refusal.UnmodelledSettings = omega arith
-number-small refusal.BankOwner = omega arith
-number-small refusal.DstRow = omega arith
-number-small refusal.UnsetRead = omega arith
-number-small refusal.StepRefused = omega arith
+Small (finished n) = n ≤ jobBytes
+Small (refused number place) = (number < 256) × (place ≤ jobBytes)
 
 -- a refusal, and that it is taken for one
-refusal-unpacks : (number place : ℕ) → number ≤ 10 → place ≤ 8192
-    → (unpackedRefusal (packed (refused number place)) ≡ refused number place) × (9223372036854775808 ≤ packed (refused number place))
+refusal-unpacks : (number place : ℕ) → number < 256 → place ≤ jobBytes
+    → (unpackedRefusal (packed (refused number place)) ≡ refused number place) × (refusalBit ≤ packed (refused number place))
 refusal-unpacks number place i j =
-    let x = 9223372036854775808 + number * 4294967296 + place % 4294967296 in
-    let p : x % 4294967296 ≡ place = omega arith in
-    let q : x / 4294967296 ≡ 2147483648 + number = omega arith in
-    let n : x / 4294967296 % 2147483648 ≡ number = rw q (omega arith) in
+    let x = refusalBit + number * numberUnit + place % numberUnit in
+    let p : x % numberUnit ≡ place = omega arith in
+    let q : x / numberUnit ≡ refusalBit / numberUnit + number = omega arith in
+    let n : x / numberUnit % (refusalBit / numberUnit) ≡ number = rw q (omega arith) in
     (rw (p, n), omega arith)
 
 unpacks : (a : Answer) → Small a → unpacked (packed a) ≡ a
 unpacks done s = absurd s
-unpacks (finished n) s = rw (lt-ltb n 9223372036854775808 (omega arith))
+unpacks (finished n) s = rw (lt-ltb n refusalBit (omega arith))
 unpacks (refused number place) s =
     let u = refusal-unpacks number place (s .0) (s .1) in
-    rw (le-ltb (packed (refused number place)) 9223372036854775808 (u .1)) (u .0)
+    rw (le-ltb (packed (refused number place)) refusalBit (u .1)) (u .0)
 
 -- ---- the fields of a short job
 
 -- every place is small, and so is the count at the end, n issue fields having come before
 abbrev Inside : ℕ → List Field → Type 0
-Inside n [] = n ≤ 8192
-Inside n (f ∷ fs) = (f .place ≤ 8192) × Inside (n + issueOf (f .kind)) fs
+Inside n [] = n ≤ jobBytes
+Inside n (f ∷ fs) = (f .place ≤ jobBytes) × Inside (n + issueOf (f .kind)) fs
 
-inside : (job : List ℕ) → length job ≤ 8192 → Inside 0 (fieldsFrom job 0)
+inside : (job : List ℕ) → length job ≤ jobBytes → Inside 0 (fieldsFrom job 0)
 inside job short = go (length job) 0 0 (omega arith) (omega arith) (omega arith)
   where
     go : (k at n : ℕ) → length job ≤ at + k → at ≤ length job → n ≤ at → Inside n (fieldsFrom job at)
@@ -98,18 +89,6 @@ inside job short = go (length job) 0 0 (omega arith) (omega arith) (omega arith)
 
 -- ---- the pre-check
 
-abbrev SmallShape : Shape → Type 0
-SmallShape shape.Right = Unit {0}
-SmallShape (shape.WrongAt place) = place ≤ 8192
-
-shape-small : (k : ℕ) → k ≤ 8192 → (n : ℕ) (fs : List Field) (stage : ℕ) → Inside n fs → SmallShape (shapeFrom k fs stage)
-unfolding shapeFrom
-shape-small k s n [] stage i = split (eqb stage 2) (λ e. rw e tt) (λ e. rw e s)
-shape-small k s n (f ∷ fs) stage i =
-    split (eqb (stageAfter stage (classOf (f .kind))) 3)
-    (λ e. rw e (i .0))
-    (λ e. rw e (shape-small k s _ fs _ (i .1)))
-
 check-small : (job : List ℕ) (fs : List Field) (c : Control) (m : Marks) (n : ℕ) → Inside n fs → Small (checkedAnswer (checkFrom job fs c m n))
 unfolding checkFrom
 check-small job [] c m n i = i
@@ -117,22 +96,15 @@ check-small job (f ∷ fs) c m n i = go (lowest (fieldRules c m (f .kind))) _ (c
   where
     go : (v : Verdict) (next : Checked) → Small (checkedAnswer next) → Small (checkedAnswer (unlessBroken v (f .place) next))
     go verdict.Done next h = h
-    go (verdict.Refused r) next h = (number-small r, i .0)
-
-shape-of-small : (job : List ℕ) → SmallShape (shapeOf job)
-unfolding shapeOf
-shape-of-small job =
-    split (leb (length job) 8192)
-    (λ b. let l = leb-true (length job) 8192 b in rw b (shape-small (length job) l 0 (fieldsFrom job 0) 0 (inside job l)))
-    (λ b. rw b (omega arith))
+    go (verdict.Refused r) next h = (number-byte r, i .0)
 
 precheck-small : (job : List ℕ) → Small (precheckAnswer job)
 unfolding precheckAnswer
-precheck-small job = go (shapeOf job) refl (shape-of-small job)
+precheck-small job = go (shapeOf job) refl
   where
-    go : (x : Shape) → shapeOf job ≡ x → SmallShape x → Small (checkedAnswer (precheckOf job))
-    go shape.Right e s = rw (precheck-right job e) (check-small job (fieldsFrom job 0) start (unset (jobWidth job)) 0 (inside job (shaped job e .short)))
-    go (shape.WrongAt place) e s = rw (precheck-wrong job place e) (number-small refusal.Shape, s)
+    go : (x : Shape) → shapeOf job ≡ x → Small (checkedAnswer (precheckOf job))
+    go shape.Right e = rw (precheck-right job e) (check-small job (fieldsFrom job 0) start (unset (jobWidth job)) 0 (inside job (shaped job e .short)))
+    go (shape.WrongAt place) e = rw (precheck-wrong job place e) (number-byte refusal.Shape, shape-inside job place e)
 
 -- ---- the run
 
@@ -143,11 +115,11 @@ execute-small job (f ∷ fs) c s n i = go (stepVerdict c (f .kind) s) _ (execute
   where
     go : (v : Verdict) (next : Ran) → Small (outcomeAnswer (next .outcome)) → Small (outcomeAnswer (unlessRefused v (f .place) s next .outcome))
     go verdict.Done next h = h
-    go (verdict.Refused r) next h = (number-small refusal.StepRefused, i .0)
+    go (verdict.Refused r) next h = (number-byte refusal.StepRefused, i .0)
 
 run-small : (job : List ℕ) (s : State) → Small (runAnswer job s)
 unfolding runAnswer precheckAnswer
-run-small job s = split (sized s) (λ z. go z (precheckOf job) refl (precheck-small job)) (λ z. rw (run-unsized job s z) (number-small refusal.StateLength, omega arith))
+run-small job s = split (sized s) (λ z. go z (precheckOf job) refl (precheck-small job)) (λ z. rw (run-unsized job s z) (number-byte refusal.StateLength, omega arith))
   where
     go : sized s ≡ true → (x : Checked) → precheckOf job ≡ x → Small (precheckAnswer job) → Small (outcomeAnswer (runOf job s .outcome))
     go z (checked.Passed n) e h =
@@ -169,5 +141,5 @@ step-unpacked c t w s = go (steppedOf c t w s .verdict)
     go : (v : Verdict) → unpackedStep (packed (verdictAnswer v)) ≡ verdictAnswer v
     go verdict.Done = refl
     go (verdict.Refused r) =
-        let u = refusal-unpacks (numberOf r) 0 (number-small r) (omega arith) in
+        let u = refusal-unpacks (numberOf r) 0 (number-byte r) (omega arith) in
         rw (ne-eqb (packed (refused (numberOf r) 0)) 0 (λ e. omega (arith, u .1))) (u .0)

@@ -1,3 +1,3 @@
 -- The definitions that the contracts of `capi` cite.
 pub mod Packed
-pub mod Record
+pub mod Step

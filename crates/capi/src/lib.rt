@@ -1,53 +1,21 @@
 // The C interface: the pre-check, the job run and the single step under plain names, each answer packed into one number (include/vintrazzola.h).
-mod record;
+mod packing;
 
-use precheck::Checked;
+use packing::pack_checked;
+use packing::pack_outcome;
+use packing::pack_verdict;
 use rules::Verdict;
-use run::Outcome;
 ghost use mathlib.Core.Path.{_≡_};
-ghost use mathlib.Core.Bool.{cond};
-ghost use lib.Dec.{ltb};
-ghost use Rattle.word.specs.Refusal.{refused};
-ghost use Rattle.rules.specs.Rules.{verdictAnswer};
 ghost use Rattle.cells.specs.State.{state};
+ghost use Rattle.numbers.specs.Record.{recordOf};
 ghost use Rattle.step.specs.Step.{stateOf, stepAnswer};
-ghost use Rattle.precheck.specs.Check.{checkedAnswer, precheckAnswer};
-ghost use Rattle.run.specs.Run.{runOf, outcomeAnswer, runAnswer};
+ghost use Rattle.precheck.specs.Check.{precheckAnswer};
+ghost use Rattle.run.specs.Run.{runOf, runAnswer};
 ghost use Rattle.capi.specs.Packed.{packed};
-ghost use Rattle.capi.specs.Record.{recordOf, numbersAfter};
+ghost use Rattle.capi.specs.Step.{threadByte, numbersAfter};
 
-fn pack_refusal(number: u8, place: usize) -> u64
-    ensures { λ r. ⌜ r ≡ packed (refused number place) ⌝ }
-{
-    9223372036854775808 + (number as u64) * 4294967296 + ((place % 4294967296) as u64)
-}
-
-fn pack_checked(checked: Checked) -> u64
-    ensures { λ r. ⌜ r ≡ packed (checkedAnswer checked) ⌝ }
-{
-    match checked {
-        Checked::Passed(count) => count as u64,
-        Checked::Refused(refusal, place) => pack_refusal(word::number(refusal), place),
-    }
-}
-
-fn pack_outcome(outcome: Outcome) -> u64
-    ensures { λ r. ⌜ r ≡ packed (outcomeAnswer outcome) ⌝ }
-{
-    match outcome {
-        Outcome::Finished(count) => count as u64,
-        Outcome::Refused(refusal, place) => pack_refusal(word::number(refusal), place),
-    }
-}
-
-fn pack_verdict(verdict: Verdict) -> u64
-    ensures { λ r. ⌜ r ≡ packed (verdictAnswer verdict) ⌝ }
-{
-    match verdict {
-        Verdict::Done => 0,
-        Verdict::Refused(refusal) => pack_refusal(word::number(refusal), 0),
-    }
-}
+// Threads, as a caller counts them.
+const THREADS: u32 = cells::THREADS as u32;
 
 #[no_mangle]
 pub extern "C" fn vintrazzola_precheck(job: &[u8]) -> u64
@@ -71,14 +39,14 @@ pub extern "C" fn vintrazzola_run(
     pack_outcome(run::run(job, srca, srcb, dst, registers))
 }
 
-// A thread that a byte cannot hold is out of range, and so is 3.
+// The thread in a byte: any thread out of range becomes the first of these.
 fn thread_byte(thread: u32) -> u8
-    ensures { λ r. ⌜ r ≡ cond (ltb thread 3) thread 3 ⌝ }
+    ensures { λ r. ⌜ r ≡ threadByte thread ⌝ }
 {
-    if thread < 3 {
+    if thread < THREADS {
         return thread as u8;
     }
-    3
+    cells::THREADS
 }
 
 #[no_mangle]
@@ -96,7 +64,7 @@ pub extern "C" fn vintrazzola_step(
         ≡ stateOf (recordOf (now (numbers .entry))) thread word (state (now (srca .entry)) (now (srcb .entry)) (now (dst .entry)) (now (registers .entry))))
         × (now (numbers .exit) ≡ numbersAfter (now (numbers .entry)) thread word (state (now (srca .entry)) (now (srcb .entry)) (now (dst .entry)) (now (registers .entry)))) ⌝ }
 {
-    let before = record::read(numbers);
+    let before = numbers::read(numbers);
     let stepped = step::step(
         before,
         thread_byte(thread),
@@ -111,6 +79,6 @@ pub extern "C" fn vintrazzola_step(
         return pack_verdict(verdict);
     };
     let after = stepped.control;
-    record::write(after, numbers);
+    numbers::write(after, numbers);
     0
 }

@@ -18,7 +18,7 @@ use Rattle.word.specs.Refusal.{numberOf}
 use Rattle.word.specs.declared.Refusal.{Refusal}
 use Rattle.word.specs.declared.Refusal.the-variants as refusal
 use Rattle.control.specs.Record.{start}
-use Rattle.control.proofs.Kept.{start-kept}
+use Rattle.control.proofs.StaysInRange.{start-kept}
 use Rattle.cells.specs.Tests.{oneOf}
 use Rattle.cells.specs.State.{State, sized}
 use Rattle.cells.proofs.Sizes.{sizes}

@@ -15,7 +15,7 @@ use Rattle.word.specs.Word.{wordOperands, readWord}
 use Rattle.word.specs.declared.Read.{Read}
 use Rattle.word.specs.declared.Read.the-variants as read
 use Rattle.word.specs.declared.Refusal.the-variants.{UnsetRead}
-use Rattle.word.proofs.Ok.{was-read}
+use Rattle.word.proofs.ReadWords.{was-read}
 use Rattle.control.specs.declared.Control.{Control}
 use Rattle.control.specs.Range.{inRange}
 use Rattle.control.specs.Record.{widthOf}

@@ -10,7 +10,7 @@ use Rattle.control.specs.declared.Control.{Control}
 use Rattle.control.specs.Record.{threadAt, withLast}
 use Rattle.control.specs.Range.{inRange}
 use Rattle.control.specs.Change.{clearBanks, moveOn, setCounters, addCounters}
-use Rattle.control.proofs.Kept.{clear-kept, last-kept, move-kept, set-kept, add-kept}
+use Rattle.control.proofs.StaysInRange.{clear-kept, last-kept, move-kept, set-kept, add-kept}
 use Rattle.rules.specs.Vocabulary.{Move, Stay, Slot, SlotAndLast, Set, Add}
 use Rattle.rules.specs.Multiply.{rowA}
 use Rattle.rules.specs.Instructions.{meaningOf}

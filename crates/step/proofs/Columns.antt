@@ -14,7 +14,7 @@ use Rattle.cells.proofs.Cells.{split, over-values, rows-between}
 use Rattle.word.specs.declared.ShiftB.{ShiftB}
 use Rattle.control.specs.declared.Control.{Control}
 use Rattle.control.specs.Range.{inRange}
-use Rattle.control.proofs.Kept.{shared-bounds}
+use Rattle.control.proofs.Bounds.{shared-bounds}
 use Rattle.rules.specs.Shifts.{shiftedA, shiftedB}
 use Rattle.step.specs.Shifts.{rightward, leftward, shiftA, shiftB}
 

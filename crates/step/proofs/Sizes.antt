@@ -22,7 +22,7 @@ use Rattle.word.specs.declared.Operands.the-variants as operands
 use Rattle.control.specs.declared.Control.{Control}
 use Rattle.control.specs.Record.{widthOf}
 use Rattle.control.specs.Range.{inRange}
-use Rattle.control.proofs.Kept.{shared-bounds}
+use Rattle.control.proofs.Bounds.{shared-bounds}
 use Rattle.product.specs.Product.{fitTests, fits}
 use Rattle.product.proofs.Laws.{length-multiplied}
 use Rattle.rules.specs.Multiply.{heightRows, rowA, rowB, rowDst}

@@ -7,7 +7,7 @@ ghost use Prim.Native.Nat.{_<_};
 ghost use lib.ListN.{length};
 ghost use Rattle.cells.specs.Layout.{threadCount, registerCount};
 ghost use Rattle.word.specs.declared.Operands.the-variants as operands;
-ghost use Rattle.word.specs.Word.{OperandsOk};
+ghost use Rattle.word.specs.Operands.{OperandsOk};
 ghost use Rattle.step.specs.Scalar.{bitwiseOf, shiftOf, compareOf, computed, operandB, scalar};
 
 fn bitwise(mode: u32, x: u32, y: u32) -> u32

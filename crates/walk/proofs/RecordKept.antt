@@ -8,7 +8,7 @@ use Rattle.cells.specs.declared.layout.File.{File}
 use Rattle.cells.specs.declared.layout.File.the-variants.{A, B}
 use Rattle.control.specs.declared.Control.{Control}
 use Rattle.control.specs.Range.{inRange}
-use Rattle.control.proofs.Kept.{hand-kept-a, hand-kept-b}
+use Rattle.control.proofs.StaysInRange.{hand-kept-a, hand-kept-b}
 use Rattle.rules.specs.After.{acting, controlAfter}
 use Rattle.rules.proofs.AfterKeeps.{control-after-kept, record-after-settings}
 use Rattle.job.specs.Fields.{payloadAt}

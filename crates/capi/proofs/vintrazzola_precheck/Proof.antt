@@ -1,7 +1,7 @@
 -- `capi::vintrazzola_precheck` meets its contract. Assumes nothing.
 use mathlib.Core.Path.{ap, _∙_}
-use Rattle.capi.specs.Packed.{packed}
 use borrow.Author.Needs.{needs}
+use Rattle.capi.specs.Packed.{packed}
 use Rattle.capi.proofs.vintrazzola_precheck.Statement.{statement}
 use Rattle.capi.proofs.vintrazzola_precheck.Tie as tie
 

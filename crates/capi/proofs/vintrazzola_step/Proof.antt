@@ -1,11 +1,10 @@
 -- `capi::vintrazzola_step` meets its contract: by what the step on the record gave. Assumes nothing.
 use denote.Ref.{now}
 use mathlib.Core.Path.{sym, ap, _∙_}
-use native.Mathlib.Omega.{arith}
 use borrow.Author.Needs.{needs}
+use Rattle.cells.specs.State.{state}
 use Rattle.rules.specs.Rules.{verdictAnswer}
 use Rattle.rules.specs.declared.Verdict.{Verdict}
-use Rattle.cells.specs.State.{state}
 use Rattle.capi.specs.Packed.{packed}
 use Rattle.capi.proofs.Steps.{Did, did}
 use Rattle.capi.proofs.vintrazzola_step.Statement.{statement}
@@ -53,7 +52,7 @@ returns : tie.Need-returns
 returns c = let g = given (c .before .before .before .before .before .before .before .before .before .before .before) in (c .pack-verdict .ensures ∙ ap packed (g .answer), g .state, g .refused _ (c .before .enum-told2 .given .1))
 
 write-requires : tie.Need-write-requires
-write-requires c κs = omega (arith, given (c .before .before .before .before .before .before .before .before .before .before .before .before) .long (c .before .before .enum-told .given .1))
+write-requires c κs = search needs
 
 same-length-6 : tie.Need-same-length-6
 same-length-6 c = search needs

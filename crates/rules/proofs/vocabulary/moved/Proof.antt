@@ -12,7 +12,7 @@ use Rattle.control.specs.declared.Banks.{Banks}
 use Rattle.control.specs.declared.Control.{Control}
 use Rattle.control.specs.Record.{startThread, threadAt, slotUsed, withLast}
 use Rattle.control.specs.Change.{giveBack, clearBanks, applySlot, moveOn}
-use Rattle.control.proofs.Laws.{getD-in}
+use Rattle.control.proofs.Arrays.{getD-in}
 use Rattle.rules.specs.Vocabulary as v
 use Rattle.rules.specs.Multiply.{countedA, rowA}
 use Rattle.rules.specs.After.{moved}

@@ -1,0 +1,5 @@
+-- That nothing is lost between a record and its numbers.
+mod Written
+pub mod Stands
+pub mod Whole
+pub mod RoundTrip

@@ -1,0 +1,180 @@
+// The record that numbers stand for, part by part from place `b` on.
+use crate::lists::number_at;
+use crate::places::BANKS_A;
+use crate::places::BANKS_B;
+use crate::places::LAST_ROW;
+use crate::places::OWN;
+use crate::places::RECORD;
+use crate::places::SLOT;
+use crate::places::THREAD_0;
+use crate::places::THREAD_1;
+use crate::places::THREAD_2;
+use control::Banks;
+use control::Control;
+use control::Counter6;
+use control::Counter10;
+use control::Dst;
+use control::DstStep;
+use control::PhaseStep;
+use control::SLOTS;
+use control::Settings;
+use control::Slot;
+use control::Src;
+use control::SrcStep;
+use control::Thread;
+ghost use mathlib.Core.Path.{_≡_};
+ghost use Prim.Native.Nat.{_+_, _*_, _≤_};
+ghost use lib.ListN.{length};
+ghost use Rattle.control.specs.Record.{slotCount};
+ghost use Rattle.numbers.specs.Places.{settingsLength, banksLength, ownLength, slotLength, threadLength, recordLength};
+ghost use Rattle.numbers.specs.Record.{settingsFrom, banksFrom, slotFrom, slotsFrom, ownFrom, threadFrom, placed, readOf, numbersOf, noRecord, recordOf};
+
+fn read_settings(n: &[u32]) -> Settings
+    requires { ⌜ settingsLength ≤ length (now n) ⌝ }
+    ensures { λ r. ⌜ r ≡ settingsFrom (placed (now (n .entry))) ⌝ }
+{
+    Settings {
+        format: (n[0] % 256) as u8,
+        fp32: n[1] == 1,
+        int8: n[2] == 1,
+        fp16a: n[3] == 1,
+        base: (n[4] % 65536) as u16,
+    }
+}
+
+fn read_banks(n: &[u32], b: usize) -> Banks
+    requires { ⌜ b + banksLength ≤ length (now n) ⌝ }
+    ensures { λ r. ⌜ r ≡ banksFrom (placed (now (n .entry))) b ⌝ }
+{
+    Banks {
+        matrix: (n[b] % 256) as u8,
+        unpack: (n[b + 1] % 256) as u8,
+        owned0: n[b + 2] == 1,
+        owned1: n[b + 3] == 1,
+    }
+}
+
+fn read_slot(n: &[u32], b: usize) -> Slot
+    requires { ⌜ b + slotLength ≤ length (now n) ⌝ }
+    ensures { λ r. ⌜ r ≡ slotFrom (placed (now (n .entry))) b ⌝ }
+{
+    Slot {
+        a: SrcStep {
+            step: Counter6((n[b] % 256) as u8),
+            clear: n[b + 1] == 1,
+            carry: n[b + 2] == 1,
+        },
+        b: SrcStep {
+            step: Counter6((n[b + 3] % 256) as u8),
+            clear: n[b + 4] == 1,
+            carry: n[b + 5] == 1,
+        },
+        dst: DstStep {
+            step: Counter10((n[b + 6] % 65536) as u16),
+            clear: n[b + 7] == 1,
+            carry: n[b + 8] == 1,
+            copy: n[b + 9] == 1,
+        },
+        phase: PhaseStep {
+            step: (n[b + 10] % 256) as u8,
+            clear: n[b + 11] == 1,
+        },
+    }
+}
+
+fn read_slots(n: &[u32], b: usize) -> [Slot; SLOTS]
+    requires { ⌜ b + slotCount * slotLength ≤ length (now n) ⌝ }
+    ensures { λ r. ⌜ r ≡ slotsFrom (placed (now (n .entry))) b ⌝ }
+{
+    let mut slots = [control::zero_slot(); SLOTS];
+    for s in 0..SLOTS {
+        slots[s] = read_slot(n, b + SLOT * s);
+    }
+    slots
+}
+
+// A thread's own numbers, with its slots.
+fn read_own(n: &[u32], b: usize, slots: [Slot; SLOTS]) -> Thread
+    requires { ⌜ b + ownLength ≤ length (now n) ⌝ }
+    ensures { λ r. ⌜ r ≡ ownFrom (placed (now (n .entry))) b slots ⌝ }
+{
+    Thread {
+        dst: Dst {
+            at: Counter10((n[b] % 65536) as u16),
+            carry: Counter10((n[b + 1] % 65536) as u16),
+        },
+        a: Src {
+            at: Counter6((n[b + 2] % 256) as u8),
+            carry: Counter6((n[b + 3] % 256) as u8),
+        },
+        b: Src {
+            at: Counter6((n[b + 4] % 256) as u8),
+            carry: Counter6((n[b + 5] % 256) as u8),
+        },
+        phase: (n[b + 6] % 256) as u8,
+        extra: n[b + 7] == 1,
+        offset: (n[b + 8] % 65536) as u16,
+        fidelity: (n[b + 9] % 256) as u8,
+        slots,
+    }
+}
+
+fn read_thread(n: &[u32], b: usize) -> Thread
+    requires { ⌜ b + threadLength ≤ length (now n) ⌝ }
+    ensures { λ r. ⌜ r ≡ threadFrom (placed (now (n .entry))) b ⌝ }
+{
+    read_own(n, b, read_slots(n, b + OWN))
+}
+
+fn read_record(n: &[u32]) -> Control
+    requires { ⌜ recordLength ≤ length (now n) ⌝ }
+    ensures { λ r. ⌜ r ≡ readOf (now (n .entry)) ⌝ }
+{
+    let threads = [
+        read_thread(n, THREAD_0),
+        read_thread(n, THREAD_1),
+        read_thread(n, THREAD_2),
+    ];
+    Control {
+        settings: read_settings(n),
+        threads,
+        a: read_banks(n, BANKS_A),
+        b: read_banks(n, BANKS_B),
+        last: (n[LAST_ROW] % 256) as u8,
+    }
+}
+
+// Whether these are the numbers of the record c.
+fn numbers_of(n: &[u32], c: Control) -> bool
+    requires { ⌜ recordLength ≤ length (now n) ⌝ }
+    ensures { λ r. ⌜ r ≡ numbersOf (now (n .entry)) c ⌝ }
+{
+    let mut same = true;
+    for p in 0..RECORD {
+        same = same & (n[p] == number_at(c, p));
+    }
+    same
+}
+
+// A record out of range.
+fn no_record() -> Control
+    ensures { λ r. ⌜ r ≡ noRecord ⌝ }
+{
+    let mut c = control::start_record();
+    c.last = 1;
+    c
+}
+
+// The record that the numbers stand for, else one out of range.
+pub fn read(n: &[u32]) -> Control
+    ensures { λ r. ⌜ r ≡ recordOf (now (n .entry)) ⌝ }
+{
+    if n.len() != RECORD {
+        return no_record();
+    }
+    let c = read_record(n);
+    if numbers_of(n, c) {
+        return c;
+    }
+    no_record()
+}

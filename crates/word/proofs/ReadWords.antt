@@ -1,0 +1,98 @@
+-- What the word reader answers, by the entry that is found; and what a word that is read has. Assumes nothing.
+use mathlib.Core.Path.{_≡_, refl, subst, sym, _∙_}
+use mathlib.Core.Bool.{Bool, true, false, cond, not}
+use mathlib.Core.Option.{Option, none, some}
+use Prim.Native.Nat.{ℕ}
+use native.Mathlib.Omega.{arith}
+use Rattle.word.specs.Table.{Row}
+use Rattle.word.specs.Entries.{entryOf, foundOf, masked}
+use Rattle.word.specs.Operands.{operandsOf, OperandsOk}
+use Rattle.word.specs.Word.{rowOf, unknownIn, strayIn, operandsIn, unknownOpcode, unnamedBit, wordOperands, readAs, readWord}
+use Rattle.word.specs.declared.table.Entry.{Entry}
+use Rattle.word.specs.declared.table.Found.the-variants.{At, Nothing}
+use Rattle.word.specs.declared.Class.{Class}
+use Rattle.word.specs.declared.Class.the-variants as class
+use Rattle.word.specs.declared.Operands.{Operands}
+use Rattle.word.specs.declared.Read.{Read}
+use Rattle.word.specs.declared.Read.the-variants as read
+use Rattle.word.specs.declared.Refusal.the-variants.{UnknownOpcode, UnnamedBit}
+use Rattle.word.proofs.Rule.{mask-ranges}
+
+-- ---- by the entry that is found
+
+abbrev readIn : Option Row → ℕ → Read
+readIn o w = readAs (unknownIn o) (strayIn o w) (operandsIn o w)
+
+read-in : (w : ℕ) → readWord w ≡ readIn (rowOf w) w
+unfolding readWord unknownOpcode unnamedBit wordOperands
+read-in w = refl
+
+pub read-none : (w : ℕ) → foundOf (rowOf w) ≡ Nothing → readWord w ≡ read.Refused UnknownOpcode
+read-none w e = read-in w ∙ go (rowOf w) e
+  where
+    go : (o : Option Row) → foundOf o ≡ Nothing → readIn o w ≡ read.Refused UnknownOpcode
+    go none e = refl
+    go (some r) e = absurd (let z : _≡_ {A = ℕ} 0 1 = cc in omega arith)
+
+pub read-at : (w : ℕ) (e : Entry) → foundOf (rowOf w) ≡ At e
+    → readWord w ≡ cond (masked w (e .1)) (read.Operands (operandsOf (e .2) w)) (read.Refused UnnamedBit)
+read-at w e h = read-in w ∙ go (rowOf w) refl h
+  where
+    flip : {A : Type 0} (b : Bool) (x y : A) → cond b x y ≡ cond (not b) y x
+    flip true x y = refl
+    flip false x y = refl
+
+    entry : (r : Row) → At (entryOf r) ≡ At e → entryOf r ≡ e
+    entry r h = cc
+
+    go : (o : Option Row) → rowOf w ≡ o → foundOf o ≡ At e
+        → readIn o w ≡ cond (masked w (e .1)) (read.Operands (operandsOf (e .2) w)) (read.Refused UnnamedBit)
+    go none q h = absurd (let z : _≡_ {A = ℕ} 0 1 = cc in omega arith)
+    go (some r) q h =
+        flip (strayIn (some r) w) (read.Refused UnnamedBit) (read.Operands (operandsOf (r .class) w))
+        ∙ (λ j. cond (sym (mask-ranges w r q) j) (read.Operands (operandsOf (r .class) w)) (read.Refused UnnamedBit))
+        ∙ (λ j. cond (masked w (entry r h j .1)) (read.Operands (operandsOf (entry r h j .2) w)) (read.Refused UnnamedBit))
+
+-- ---- a word that is read is of a known opcode, and all its bits are named
+
+pub record WasRead (w : ℕ) (f : Operands) : Type 0 where
+  pub known : unknownOpcode w ≡ false
+  pub named : unnamedBit w ≡ false
+  pub fields : wordOperands w ≡ f
+
+pub was-read : (w : ℕ) (f : Operands) → readWord w ≡ read.Operands f → WasRead w f
+unfolding readWord
+was-read w f e = go (unknownOpcode w) (unnamedBit w) refl refl e
+  where
+    go : (u n : Bool) → unknownOpcode w ≡ u → unnamedBit w ≡ n
+        → readAs u n (wordOperands w) ≡ read.Operands f → WasRead w f
+    go true n p q e = absurd (let z : _≡_ {A = ℕ} 0 1 = cc in omega arith)
+    go false true p q e = absurd (let z : _≡_ {A = ℕ} 0 1 = cc in omega arith)
+    go false false p q e = record { known = p; named = q; fields = cc }
+
+-- ---- the fields that are read are in their bits
+
+class-ok : (k : Class) (w : ℕ) → OperandsOk (operandsOf k w)
+class-ok class.Multiply8 w = tt
+class-ok class.Multiply4 w = tt
+class-ok class.Legacy w = tt
+class-ok class.SetCounters w = tt
+class-ok class.AddCounters w = tt
+class-ok class.ZeroSrc w = tt
+class-ok class.ShiftA w = tt
+class-ok class.ShiftB w = tt
+class-ok class.NoEffect w = tt
+class-ok class.Bitwise w = (omega arith, omega arith, omega arith)
+class-ok class.Shift w = (omega arith, omega arith, omega arith)
+class-ok class.Compare w = (omega arith, omega arith, omega arith)
+
+fields-ok : (w : ℕ) → OperandsOk (wordOperands w)
+unfolding wordOperands
+fields-ok w = go (rowOf w)
+  where
+    go : (o : Option Row) → OperandsOk (operandsIn o w)
+    go none = tt
+    go (some r) = class-ok (r .class) w
+
+pub ok-if-read : (w : ℕ) (f : Operands) → readWord w ≡ read.Operands f → OperandsOk f
+ok-if-read w f e = subst OperandsOk (was-read w f e .fields) (fields-ok w)

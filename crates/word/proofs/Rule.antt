@@ -1,0 +1,81 @@
+-- The table of twenty: the search in it, and its rule, proved once over the table. Assumes nothing.
+use mathlib.Core.Path.{_≡_, refl, sym, ap, _∙_}
+use mathlib.Core.Bool.{Bool, true, false, cond, _&&_, not}
+use mathlib.Core.List.{List, [], _∷_}
+use mathlib.Core.Option.{none, some}
+use Prim.Native.Nat.{ℕ, _+_, _-_, _%_, _/_, _^_, _<_}
+use native.Mathlib.Numerals.{add-one}
+use native.Mathlib.Omega.{arith}
+use lib.Dec.{eqb}
+use lib.Pow.{field, mod-mod-pow}
+use lib.ListN.{drop, length, getD}
+use lib.Seq.{drop-cons}
+use Rattle.cells.specs.Cells.{between}
+use Rattle.cells.specs.Tests.{below}
+use Rattle.cells.proofs.Tests.{below-of}
+use Rattle.cells.proofs.Cells.{split, both}
+use Rattle.word.specs.Bits.{bit, inRanges}
+use Rattle.word.specs.Table.{Row, table, lookup, noRow}
+use Rattle.word.specs.Entries.{maskOf, masked}
+use Rattle.word.specs.Word.{opcodeOf, rowOf, strayAt, strayIn}
+use Rattle.word.proofs.Masks.{mask-bits, some-same}
+
+-- a turn of the search
+pub turn : (op i : ℕ) → i < length table
+    → lookup (drop i table) op ≡ cond (eqb (getD table i noRow .opcode) op) (some (getD table i noRow)) (lookup (drop (i + 1) table) op)
+turn op i h = rw (add-one, drop-cons table i noRow)
+
+-- ---- the rule of an entry: bit i of its mask is 1 just where the paper's ranges have bit i
+
+abbrev same : Bool → Bool → Bool
+same true b = b
+same false b = not b
+
+same-is : (a b : Bool) → same a b ≡ true → a ≡ b
+same-is true true e = refl
+same-is true false e = sym e
+same-is false true e = e
+same-is false false e = refl
+
+abbrev right : Row → Bool
+right r = below (λ i. same (bit (maskOf (r .named)) i) (inRanges (r .named) i)) 24
+
+abbrev every : (Row → Bool) → List Row → Bool
+every f [] = true
+every f (r ∷ rs) = f r && every f rs
+
+-- what holds of each row holds of the one that is found
+found-right : (f : Row → Bool) (rs : List Row) (op : ℕ) (r : Row) → every f rs ≡ true → lookup rs op ≡ some r → f r ≡ true
+found-right f [] op r h e = absurd (none-some e)
+  where
+    none-some : none ≡ some r → ⊥
+    none-some e = let z : _≡_ {A = ℕ} 0 1 = cc in omega arith
+found-right f (x ∷ rs) op r h e =
+    let b = both (f x) (every f rs) h in
+    split (eqb (x .opcode) op)
+    (λ t. let q : x ≡ r = here t in rw (sym q) (b .0))
+    (λ t. found-right f rs op r (b .1) (sym (ap (λ (z : Bool). cond z (some x) (lookup rs op)) t) ∙ e))
+  where
+    here : eqb (x .opcode) op ≡ true → x ≡ r
+    here t = let e′ : some x ≡ some r = sym (ap (λ (z : Bool). cond z (some x) (lookup rs op)) t) ∙ e in cc
+
+-- the whole table, computed
+rule : every right table ≡ true
+unfolding table between
+rule = refl
+
+-- so the mask says what the ranges say
+pub mask-ranges : (w : ℕ) (r : Row) → rowOf w ≡ some r → masked w (maskOf (r .named)) ≡ not (strayIn (some r) w)
+mask-ranges w r e =
+    let m = maskOf (r .named) in
+    let is = below-of (λ i. same (bit m i) (inRanges (r .named) i)) 24 (found-right right table (opcodeOf w) r rule e) in
+    mask-bits 24 (w % 2 ^ 24) m (omega arith)
+    ∙ ap not
+    (some-same (λ i. bit (w % 2 ^ 24) i && not (bit m i)) (strayAt (r .named) w) 24
+    (λ i h. λ j. low-bit w i h j && not (same-is (bit m i) (inRanges (r .named) i) (is i h) j)))
+  where
+    low-bit : (w i : ℕ) → i < 24 → bit (w % 2 ^ 24) i ≡ bit w i
+    low-bit w i h =
+        let whole : 24 ≡ 23 - i + 1 + i = omega arith in
+        ap (λ (x : ℕ). eqb (x % 2) 1) (ap (λ (n : ℕ). w % 2 ^ n / 2 ^ i) whole ∙ field w (23 - i + 1) i)
+        ∙ ap (λ (x : ℕ). eqb x 1) (mod-mod-pow (w / 2 ^ i) (23 - i) 1)

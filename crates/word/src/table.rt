@@ -1,0 +1,60 @@
+// The table of twenty, in the paper's order.
+use crate::Class;
+ghost use mathlib.Core.Path.{_≡_};
+ghost use Rattle.word.specs.Table.{table, lookup};
+ghost use Rattle.word.specs.Entries.{foundOf, masked};
+
+// A row: an opcode, the bits that may be 1, and the class.
+pub(crate) struct Entry(pub u32, pub u32, pub Class);
+
+const ENTRIES: usize = 20;
+
+const TABLE: [Entry; ENTRIES] = [
+    Entry(0x26, 0xF8FFFF, Class::Multiply8), // MVMUL
+    Entry(0x29, 0xF8FFFF, Class::Multiply8), // DOTPV
+    Entry(0x34, 0xF9BFFF, Class::Multiply4), // GAPOOL
+    Entry(0x22, 0xC2FFFF, Class::Legacy), // CONV3S1
+    Entry(0x23, 0xC2FFFF, Class::Legacy), // CONV3S2
+    Entry(0x24, 0xC2FFFF, Class::Legacy), // MPOOL3S1
+    Entry(0x25, 0xC2FFFF, Class::Legacy), // APOOL3S1
+    Entry(0x31, 0xC2FFFF, Class::Legacy), // MPOOL3S2
+    Entry(0x32, 0xC2FFFF, Class::Legacy), // APOOL3S2
+    Entry(0x37, 0xFFFFCF, Class::SetCounters), // SETRWC
+    Entry(0x38, 0xFFFFC0, Class::AddCounters), // INCRWC
+    Entry(0x11, 0xFFFFFF, Class::ZeroSrc), // ZEROSRC
+    Entry(0x17, 0x000003, Class::ShiftA), // SHIFTXA
+    Entry(0x18, 0x00C7FF, Class::ShiftB), // SHIFTXB
+    Entry(0x35, 0x000003, Class::NoEffect), // GATESRCRST
+    Entry(0x21, 0x000000, Class::NoEffect), // CLREXPHIST
+    Entry(0x46, 0x00000F, Class::NoEffect), // FLUSHDMA
+    Entry(0x5B, 0x9FFFFF, Class::Bitwise), // BITWOPDMAREG
+    Entry(0x5C, 0x9FFFFF, Class::Shift), // SHIFTDMAREG
+    Entry(0x5D, 0x9FFFFF, Class::Compare), // CMPDMAREG
+];
+
+// The row of an opcode, as the table keeps it.
+pub(crate) enum Found {
+    At(Entry),
+    Nothing,
+}
+
+pub(crate) fn find(opcode: u32) -> Found
+    ensures { λ r. ⌜ r ≡ foundOf (lookup table opcode) ⌝ }
+{
+    let rows = TABLE;
+    for i in 0..ENTRIES {
+        let e = rows[i];
+        if e.0 == opcode {
+            return Found::At(e);
+        }
+    }
+    Found::Nothing
+}
+
+// Whether each of the low 24 bits that is 1 is allowed to be.
+pub(crate) fn allows(allowed: u32, w: u32) -> bool
+    ensures { λ r. ⌜ r ≡ masked w allowed ⌝ }
+{
+    let low = w % 0x1000000;
+    low & allowed == low
+}
