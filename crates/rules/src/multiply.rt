@@ -11,7 +11,6 @@ use word::Multiply;
 use word::Refusal;
 ghost use mathlib.Core.Path.{_≡_};
 ghost use Prim.Native.Nat.{_+_};
-ghost use lib.Bits.{bitAnd};
 ghost use lib.Dec.{leb};
 ghost use Rattle.cells.specs.Places.{rowCount};
 ghost use Rattle.word.specs.declared.Operands.the-variants as operands;
@@ -65,12 +64,12 @@ fn dst_sum(dst: u32, offset: u16, at: u16, base: u16) -> u64
     dst as u64 + offset as u64 + at as u64 + base as u64
 }
 
-fn masked(height: Height, sum: u64) -> u32
-    ensures { λ r. ⌜ r ≡ bitAnd sum (heightMask height) ⌝ }
+fn height_mask(height: Height) -> u32
+    ensures { λ r. ⌜ r ≡ heightMask height ⌝ }
 {
     match height {
-        Height::Eight => (sum & 0x3F8) as u32,
-        Height::Four => (sum & 0x3FC) as u32,
+        Height::Eight => 0x3F8,
+        Height::Four => 0x3FC,
     }
 }
 
@@ -78,7 +77,9 @@ fn masked(height: Height, sum: u64) -> u32
 pub fn row_dst(base: u16, x: Thread, height: Height, dst: u32) -> u32
     ensures { λ r. ⌜ r ≡ countedDst base x height dst ⌝ }
 {
-    masked(height, dst_sum(dst, x.offset, x.dst.at.0, base))
+    let sum = dst_sum(dst, x.offset, x.dst.at.0, base);
+    let mask = height_mask(height);
+    (sum & mask as u64) as u32
 }
 
 pub fn phase_of(x: Thread) -> u8
