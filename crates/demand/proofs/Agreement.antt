@@ -24,7 +24,7 @@ use Rattle.control.specs.declared.Control.{Control}
 use Rattle.control.specs.Record.{widthOf}
 use Rattle.product.specs.declared.Product.{Product}
 use Rattle.product.specs.Product.{rowsA, rowsB, rowsD, multiplied}
-use Rattle.product.proofs.Laws.{multiplied-agrees}
+use Rattle.product.proofs.MultipliedDst.{multiplied-agrees}
 use Rattle.rules.specs.declared.Reads.{Reads}
 use Rattle.rules.specs.declared.Unsets.{Unsets}
 use Rattle.rules.specs.ZeroSrc.{filledA, filledB}
@@ -192,7 +192,7 @@ module _ (w : Width) (m : Marks) (d e : State) (s : Agree w m d e) where
       numbers-over alone 192 (m .registers) (d .registers) (e .registers) (s .registers) (inSpan (span (register t (x .result)) 1)) _ _
       (λ i q. ap₂ (computed (x .op) (x .mode)) (number-same alone 192 (m .registers) (d .registers) (e .registers) (s .registers) (register t (x .a)) (one-set (m .registers) (register t (x .a)) (h .left))) (operand-same t x (h .right)))
 
-  -- the fields of a word, all that they read being set, under a record of this width
+  -- the operands of a word, all that they read being set, under a record of this width
   pub word-agrees : (c : Control) (t : ℕ) (f : Operands) → widthOf (c .settings) ≡ w → readsSet m (readsOf c t f) ≡ true
       → Agree w (instructionMarks m (setsOf c t f) (unsetsOf c f)) (effectOf c t f d) (effectOf c t f e)
   unfolding effectOf readsOf setsOf unsetsOf instructionMarks productOf

@@ -50,7 +50,7 @@ unfolding acting judgement
 acts c t w h = go (readWord w) refl
   where
     go : (r : Read) → readWord w ≡ r → actingOf r ≡ wordOperands w
-    go (read.Operands f) e = sym (was-read w f e .fields)
+    go (read.Operands f) e = sym (was-read w f e .operands)
     go (read.Refused r) e = absurd (never (sym (judged-refused c t w r e) ∙ h))
 
 module _ (c : Control) (m : Marks) (t w : ℕ) (h : lowest (fieldRules c m (kind.Issue t w)) ≡ Done) where

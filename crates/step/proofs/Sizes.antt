@@ -24,7 +24,7 @@ use Rattle.control.specs.Record.{widthOf}
 use Rattle.control.specs.Range.{inRange}
 use Rattle.control.proofs.Bounds.{shared-bounds}
 use Rattle.product.specs.Product.{fitTests, fits}
-use Rattle.product.proofs.Laws.{length-multiplied}
+use Rattle.product.proofs.MultipliedDst.{length-multiplied}
 use Rattle.rules.specs.Multiply.{heightRows, rowA, rowB, rowDst}
 use Rattle.rules.proofs.Places.{row-a-inside, row-b-inside, row-dst-inside, rows-few}
 use Rattle.cells.specs.Layout.{columnCount, dstRows, srcNumbers, dstNumbers, bankRow, rowStart}

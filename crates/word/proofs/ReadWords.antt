@@ -58,7 +58,7 @@ read-at w e h = read-in w ∙ go (rowOf w) refl h
 pub record WasRead (w : ℕ) (f : Operands) : Type 0 where
   pub known : unknownOpcode w ≡ false
   pub named : unnamedBit w ≡ false
-  pub fields : wordOperands w ≡ f
+  pub operands : wordOperands w ≡ f
 
 pub was-read : (w : ℕ) (f : Operands) → readWord w ≡ read.Operands f → WasRead w f
 unfolding readWord
@@ -68,9 +68,9 @@ was-read w f e = go (unknownOpcode w) (unnamedBit w) refl refl e
         → readAs u n (wordOperands w) ≡ read.Operands f → WasRead w f
     go true n p q e = absurd (let z : _≡_ {A = ℕ} 0 1 = cc in omega arith)
     go false true p q e = absurd (let z : _≡_ {A = ℕ} 0 1 = cc in omega arith)
-    go false false p q e = record { known = p; named = q; fields = cc }
+    go false false p q e = record { known = p; named = q; operands = cc }
 
--- ---- the fields that are read are in their bits
+-- ---- the operands that are read are in their bits
 
 class-ok : (k : Class) (w : ℕ) → OperandsOk (operandsOf k w)
 class-ok class.Multiply8 w = tt
@@ -86,13 +86,13 @@ class-ok class.Bitwise w = (omega arith, omega arith, omega arith)
 class-ok class.Shift w = (omega arith, omega arith, omega arith)
 class-ok class.Compare w = (omega arith, omega arith, omega arith)
 
-fields-ok : (w : ℕ) → OperandsOk (wordOperands w)
+operands-ok : (w : ℕ) → OperandsOk (wordOperands w)
 unfolding wordOperands
-fields-ok w = go (rowOf w)
+operands-ok w = go (rowOf w)
   where
     go : (o : Option Row) → OperandsOk (operandsIn o w)
     go none = tt
     go (some r) = class-ok (r .class) w
 
 pub ok-if-read : (w : ℕ) (f : Operands) → readWord w ≡ read.Operands f → OperandsOk f
-ok-if-read w f e = subst OperandsOk (was-read w f e .fields) (fields-ok w)
+ok-if-read w f e = subst OperandsOk (was-read w f e .operands) (operands-ok w)

@@ -34,7 +34,7 @@ abbrev pub setCountersOf : ℕ → Operands
 setCountersOf w =
     operands.SetCounters (record { clear = clearOf w; mode = bits w 21 18; d = bits w 17 14; b = bits w 13 10; a = bits w 9 6; which = whichOf w })
 
--- the fields of a word by its class
+-- the operands of a word, its named fields, by its class
 abbrev pub operandsOf : Class → ℕ → Operands
 operandsOf class.Multiply8 w = multiplyOf Eight (bits w 15 14) w
 operandsOf class.Multiply4 w = multiplyOf Four (bits w 16 15) w
@@ -51,7 +51,7 @@ operandsOf class.Bitwise w = scalarOf operation.Bitwise w
 operandsOf class.Shift w = scalarOf operation.Shift w
 operandsOf class.Compare w = scalarOf operation.Compare w
 
--- ---- what is known of the fields that are read: a register number has six bits
+-- ---- what is known of the operands that are read: a register number has six bits
 
 abbrev pub OperandsOk : Operands → Type 0
 OperandsOk (operands.Multiply m) = Unit {0}

@@ -5,7 +5,7 @@ use native.Mathlib.Nat.{add-zero}
 use native.Mathlib.Omega.{arith}
 use denote.Ref.{now}
 use Rattle.cells.proofs.Parts.{gone, gone-none, gone-length}
-use Rattle.product.specs.Workers.{newIn}
+use Rattle.product.specs.Sums.{newIn}
 use Rattle.product.proofs.Rows.{column-turn, column-end}
 use borrow.Author.Needs.{needs}
 use Rattle.product.proofs.add_in.Statement.{statement}
