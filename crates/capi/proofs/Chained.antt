@@ -15,7 +15,7 @@ use Rattle.control.specs.Change.{clearBanks, applySlot, moveOn, setCounters, ad
 use Rattle.control.specs.Range.{inRange}
 use Rattle.control.specs.declared.Thread.{Thread}
 use Rattle.control.specs.declared.Control.{Control}
-use Rattle.numbers.specs.Lists.{written}
+use Rattle.numbers.specs.Lists.{recordOver}
 use Rattle.numbers.specs.Record.{recordOf}
 use Rattle.numbers.proofs.Stands.{in-range-long}
 use Rattle.numbers.proofs.Whole.{Whole, record-whole}
@@ -63,7 +63,7 @@ unfolding numbersAfter steppedOf controlAfter
 chained l t w s = go (verdictOf (recordOf l) t w s) refl
   where
     go : (v : Verdict) → verdictOf (recordOf l) t w s ≡ v
-        → recordOf (ifDone v (written (ifDone v (controlAfter (recordOf l) t w) (recordOf l)) l) l) ≡ ifDone v (controlAfter (recordOf l) t w) (recordOf l)
+        → recordOf (ifDone v (recordOver (ifDone v (controlAfter (recordOf l) t w) (recordOf l)) l) l) ≡ ifDone v (controlAfter (recordOf l) t w) (recordOf l)
     go verdict.Done e =
         let r : inRange (recordOf l) ≡ true = done-in-range (recordOf l) t w s e in
         round-trip (controlAfter (recordOf l) t w) l (record-after-keeps Whole whole-keeps (recordOf l) t (acting w) (record-whole l)) (control-after-kept (recordOf l) t w r) (in-range-long l r)

@@ -12,7 +12,7 @@ use Rattle.cells.proofs.Cells.{split}
 use Rattle.word.specs.declared.Refusal.{Refusal}
 use Rattle.control.specs.Range.{inRange}
 use Rattle.control.specs.declared.Control.{Control}
-use Rattle.numbers.specs.Lists.{written}
+use Rattle.numbers.specs.Lists.{recordOver}
 use Rattle.numbers.specs.Record.{recordOf}
 use Rattle.rules.specs.Rules.{verdictAnswer}
 use Rattle.rules.specs.declared.Verdict.the-variants.{Done, Refused}
@@ -54,14 +54,14 @@ module _ (l : List ℕ) (t w : ℕ) (s : State) where
     pub answer : verdictAnswer (r .verdict) ≡ stepAnswer (recordOf l) t w s
     pub state : after ≡ stateOf (recordOf l) t w s
     pub refused : (x : Refusal) → r .verdict ≡ Refused x → l ≡ numbersAfter l t w s
-    pub done : r .verdict ≡ Done → written (r .control) l ≡ numbersAfter l t w s
+    pub done : r .verdict ≡ Done → recordOver (r .control) l ≡ numbersAfter l t w s
 
   pub did : {c : Control} {b : ℕ} {r : Stepped} {after : State} → c ≡ recordOf l → b ≡ threadByte t → r ≡ steppedOf c b w s → after ≡ stateOf c b w s → Did r after
   unfolding stepAnswer numbersAfter steppedOf
   did {c} {b} {r} {after} e f g k =
       let q : r ≡ steppedOf (recordOf l) t w s = g ∙ (λ i. steppedOf (e i) (f i) w s) ∙ same-thread (recordOf l) t w s .0 in
-      let numbers : ifDone (r .verdict) (written (r .control) l) l ≡ numbersAfter l t w s =
-      ap (λ (x : Stepped). ifDone (x .verdict) (written (x .control) l) l) q in
+      let numbers : ifDone (r .verdict) (recordOver (r .control) l) l ≡ numbersAfter l t w s =
+      ap (λ (x : Stepped). ifDone (x .verdict) (recordOver (x .control) l) l) q in
       record {
         answer = ap (λ (x : Stepped). verdictAnswer (x .verdict)) q;
         state = k ∙ (λ i. stateOf (e i) (f i) w s) ∙ same-thread (recordOf l) t w s .1;

@@ -5,7 +5,7 @@ use Prim.Native.Nat.{ℕ}
 use lib.Dec.{ltb}
 use Rattle.cells.specs.Layout.{threadCount}
 use Rattle.cells.specs.State.{State}
-use Rattle.numbers.specs.Lists.{written}
+use Rattle.numbers.specs.Lists.{recordOver}
 use Rattle.numbers.specs.Record.{recordOf}
 use Rattle.step.specs.Step.{verdictOf, ifDone, steppedOf}
 
@@ -15,4 +15,4 @@ threadByte t = cond (ltb t threadCount) t threadCount
 
 -- the numbers after a step: those of the record after it; refusing, as they came
 unfoldable pub numbersAfter : List ℕ → ℕ → ℕ → State → List ℕ
-numbersAfter l t w s = ifDone (verdictOf (recordOf l) t w s) (written (steppedOf (recordOf l) t w s .control) l) l
+numbersAfter l t w s = ifDone (verdictOf (recordOf l) t w s) (recordOver (steppedOf (recordOf l) t w s .control) l) l

@@ -21,8 +21,8 @@ use Rattle.control.specs.declared.Banks.{Banks}
 use Rattle.control.specs.declared.Control.{Control}
 use Rattle.control.proofs.Bounds.{shared-bounds}
 use Rattle.numbers.specs.Places.{ownLength, slotLength, banksA, banksB, lastRow, sharedLength, threadLength, recordLength}
-use Rattle.numbers.specs.Lists.{flag, ownNumbers, slotNumber, threadNumber, sharedNumber, numberAt, written}
-use Rattle.numbers.specs.Record.{byte, half, on, slotFrom, slotsFrom, threadFrom, banksFrom, controlFrom, placed, readOf, numbersOf, stands, recordOf}
+use Rattle.numbers.specs.Lists.{flag, ownNumbers, slotNumber, threadNumber, sharedNumber, numberAt, recordOver}
+use Rattle.numbers.specs.Record.{byte, half, on, slotFrom, slotsFrom, threadFrom, banksFrom, controlFrom, numberFrom, readOf, numbersOf, stands, recordOf}
 use Rattle.numbers.proofs.Stands.{reads-as, in-range-stands}
 use Rattle.numbers.proofs.Whole.{Whole}
 
@@ -161,21 +161,21 @@ module _ (n : ℕ → ℕ) where
 
 -- ---- the round trip
 
-pub round-trip : (c : Control) (l : List ℕ) → Whole c → inRange c ≡ true → length l ≡ recordLength → recordOf (written c l) ≡ c
+pub round-trip : (c : Control) (l : List ℕ) → Whole c → inRange c ≡ true → length l ≡ recordLength → recordOf (recordOver c l) ≡ c
 unfolding numbersOf
 round-trip c l w ok h =
-    let n = written c l in
+    let n = recordOver c l in
     let long : length n ≡ recordLength = length-over (between 0 recordLength) (numberAt c) l ∙ h in
-    let at : (p : ℕ) → p < recordLength → placed n p ≡ numberAt c p = λ p f. over-in (between 0 recordLength) (numberAt c) l p 0 (between-in 0 recordLength p (omega arith) f) (omega arith) in
-    sym (reads-as n long (sym (control-back (placed n) c w ok at)) (of-below (λ (p : ℕ). eqb (placed n p) (numberAt c p)) recordLength (λ p f. eq-eqb _ _ (at p f))))
+    let at : (p : ℕ) → p < recordLength → numberFrom n p ≡ numberAt c p = λ p f. over-in (between 0 recordLength) (numberAt c) l p 0 (between-in 0 recordLength p (omega arith) f) (omega arith) in
+    sym (reads-as n long (sym (control-back (numberFrom n) c w ok at)) (of-below (λ (p : ℕ). eqb (numberFrom n p) (numberAt c p)) recordLength (λ p f. eq-eqb _ _ (at p f))))
 
 -- a list that is taken for a record in range has that record's numbers, each flag 0 or 1
-pub taken-whole : (l : List ℕ) → inRange (recordOf l) ≡ true → (p : ℕ) → p < recordLength → placed l p ≡ numberAt (recordOf l) p
+pub taken-whole : (l : List ℕ) → inRange (recordOf l) ≡ true → (p : ℕ) → p < recordLength → numberFrom l p ≡ numberAt (recordOf l) p
 unfolding recordOf stands numbersOf
 taken-whole l h p f =
     let e = in-range-stands l h in
     let b = both (eqb (length l) recordLength) (numbersOf l (readOf l)) e .1 in
-    eqb-true _ _ (below-of (λ (k : ℕ). eqb (placed l k) (numberAt (readOf l) k)) recordLength b p f) ∙ rw e
+    eqb-true _ _ (below-of (λ (k : ℕ). eqb (numberFrom l k) (numberAt (readOf l) k)) recordLength b p f) ∙ rw e
 
 -- the numbers of the record at the start are all 0
 pub at-start : recordOf (replicate recordLength 0) ≡ start

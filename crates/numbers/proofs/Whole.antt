@@ -8,7 +8,7 @@ use Rattle.cells.proofs.Cells.{split}
 use Rattle.control.specs.Record.{slotCount, startThread, start, threadAt}
 use Rattle.control.specs.declared.Thread.{Thread}
 use Rattle.control.specs.declared.Control.{Control}
-use Rattle.numbers.specs.Record.{slotsFrom, threadFrom, controlFrom, placed, stands, noRecord, recordOf}
+use Rattle.numbers.specs.Record.{slotsFrom, threadFrom, controlFrom, numberFrom, stands, noRecord, recordOf}
 
 -- a record has three threads, and each has eight slots
 pub record Whole (c : Control) : Type 0 where
@@ -32,4 +32,4 @@ none-whole = record { threads = refl; slots = three-whole _ _ _ refl refl refl }
 
 pub record-whole : (l : List ℕ) → Whole (recordOf l)
 unfolding recordOf
-record-whole l = split (stands l) (λ e. rw e (read-whole (placed l))) (λ e. rw e none-whole)
+record-whole l = split (stands l) (λ e. rw e (read-whole (numberFrom l))) (λ e. rw e none-whole)

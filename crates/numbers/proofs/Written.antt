@@ -8,7 +8,7 @@ use Rattle.cells.specs.Cells.{over, between}
 use Rattle.cells.proofs.Cells.{turn, over-between-none, over-ended}
 use Rattle.control.specs.declared.Control.{Control}
 use Rattle.numbers.specs.Places.{recordLength}
-use Rattle.numbers.specs.Lists.{numberAt, written}
+use Rattle.numbers.specs.Lists.{numberAt, recordOver}
 
 -- before place p
 pub record Written (c : Control) (l₀ l : List ℕ) (p : ℕ) : Type 0 where
@@ -29,8 +29,8 @@ written-more {c} {l₀} {l} {p} {v} w i h e =
     }
 
 -- and the end: all numbers are written, or the list has no more places
-pub written-all : {c : Control} {l₀ l : List ℕ} {p : ℕ} → Written c l₀ l p → recordLength ≤ p → l ≡ written c l₀
+pub written-all : {c : Control} {l₀ l : List ℕ} {p : ℕ} → Written c l₀ l p → recordLength ≤ p → l ≡ recordOver c l₀
 written-all {c} {l₀} {l} {p} w h = let e : p ≡ recordLength = omega (arith, w .inside) in w .so-far ∙ ap (λ (k : ℕ). over (between 0 k) (numberAt c) l₀) e
 
-pub written-short : {c : Control} {l₀ l : List ℕ} {p : ℕ} → Written c l₀ l p → length l ≤ p → l ≡ written c l₀
+pub written-short : {c : Control} {l₀ l : List ℕ} {p : ℕ} → Written c l₀ l p → length l ≤ p → l ≡ recordOver c l₀
 written-short {c} {l₀} {l} {p} w h = w .so-far ∙ over-ended (numberAt c) 0 l₀ 0 recordLength p (w .inside) (omega (arith, w .long))

@@ -69,5 +69,5 @@ numberAt c p =
     (threadNumber (threadAt c ((p - sharedLength) / threadLength)) ((p - sharedLength) % threadLength))
 
 -- the numbers of c over those of l
-abbrev pub written : Control → List ℕ → List ℕ
-written c l = over (between 0 recordLength) (numberAt c) l
+abbrev pub recordOver : Control → List ℕ → List ℕ
+recordOver c l = over (between 0 recordLength) (numberAt c) l

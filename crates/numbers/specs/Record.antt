@@ -75,15 +75,15 @@ controlFrom n =
 
 -- ---- the record
 
-abbrev pub placed : List ℕ → ℕ → ℕ
-placed l p = getD l p 0
+abbrev pub numberFrom : List ℕ → ℕ → ℕ
+numberFrom l p = getD l p 0
 
 abbrev pub readOf : List ℕ → Control
-readOf l = controlFrom (placed l)
+readOf l = controlFrom (numberFrom l)
 
 -- a list stands for a record when it is the list of the record's numbers
 unfoldable pub numbersOf : List ℕ → Control → Bool
-numbersOf l c = below (λ (p : ℕ). eqb (placed l p) (numberAt c p)) recordLength
+numbersOf l c = below (λ (p : ℕ). eqb (numberFrom l p) (numberAt c p)) recordLength
 
 unfoldable pub stands : List ℕ → Bool
 stands l = eqb (length l) recordLength && numbersOf l (readOf l)

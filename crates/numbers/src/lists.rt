@@ -17,7 +17,7 @@ use control::Thread;
 ghost use mathlib.Core.Path.{_≡_};
 ghost use Prim.Native.Nat.{_<_};
 ghost use Rattle.numbers.specs.Places.{sharedLength, threadLength, recordLength};
-ghost use Rattle.numbers.specs.Lists.{settingsNumbers, banksNumbers, ownNumbers, slotNumbers, threadNumber, sharedNumber, numberAt, written};
+ghost use Rattle.numbers.specs.Lists.{settingsNumbers, banksNumbers, ownNumbers, slotNumbers, threadNumber, sharedNumber, numberAt, recordOver};
 
 fn settings_numbers(s: Settings) -> [u32; SETTINGS]
     ensures { λ r. ⌜ r ≡ settingsNumbers s ⌝ }
@@ -128,7 +128,7 @@ pub(crate) fn number_at(c: Control, p: usize) -> u32
 
 // The numbers of a record over those of `n`, as far as `n` goes.
 pub fn write(c: Control, n: &mut [u32])
-    ensures { λ _. ⌜ now (n .exit) ≡ written c (now (n .entry)) ⌝ }
+    ensures { λ _. ⌜ now (n .exit) ≡ recordOver c (now (n .entry)) ⌝ }
 {
     let mut p = 0;
     while p < RECORD {

@@ -27,11 +27,11 @@ ghost use Prim.Native.Nat.{_+_, _*_, _≤_};
 ghost use lib.ListN.{length};
 ghost use Rattle.control.specs.Record.{slotCount};
 ghost use Rattle.numbers.specs.Places.{settingsLength, banksLength, ownLength, slotLength, threadLength, recordLength};
-ghost use Rattle.numbers.specs.Record.{settingsFrom, banksFrom, slotFrom, slotsFrom, ownFrom, threadFrom, placed, readOf, numbersOf, noRecord, recordOf};
+ghost use Rattle.numbers.specs.Record.{settingsFrom, banksFrom, slotFrom, slotsFrom, ownFrom, threadFrom, numberFrom, readOf, numbersOf, noRecord, recordOf};
 
 fn read_settings(n: &[u32]) -> Settings
     requires { ⌜ settingsLength ≤ length (now n) ⌝ }
-    ensures { λ r. ⌜ r ≡ settingsFrom (placed (now (n .entry))) ⌝ }
+    ensures { λ r. ⌜ r ≡ settingsFrom (numberFrom (now (n .entry))) ⌝ }
 {
     Settings {
         format: (n[0] % 256) as u8,
@@ -44,7 +44,7 @@ fn read_settings(n: &[u32]) -> Settings
 
 fn read_banks(n: &[u32], b: usize) -> Banks
     requires { ⌜ b + banksLength ≤ length (now n) ⌝ }
-    ensures { λ r. ⌜ r ≡ banksFrom (placed (now (n .entry))) b ⌝ }
+    ensures { λ r. ⌜ r ≡ banksFrom (numberFrom (now (n .entry))) b ⌝ }
 {
     Banks {
         matrix: (n[b] % 256) as u8,
@@ -56,7 +56,7 @@ fn read_banks(n: &[u32], b: usize) -> Banks
 
 fn read_slot(n: &[u32], b: usize) -> Slot
     requires { ⌜ b + slotLength ≤ length (now n) ⌝ }
-    ensures { λ r. ⌜ r ≡ slotFrom (placed (now (n .entry))) b ⌝ }
+    ensures { λ r. ⌜ r ≡ slotFrom (numberFrom (now (n .entry))) b ⌝ }
 {
     Slot {
         a: SrcStep {
@@ -84,7 +84,7 @@ fn read_slot(n: &[u32], b: usize) -> Slot
 
 fn read_slots(n: &[u32], b: usize) -> [Slot; SLOTS]
     requires { ⌜ b + slotCount * slotLength ≤ length (now n) ⌝ }
-    ensures { λ r. ⌜ r ≡ slotsFrom (placed (now (n .entry))) b ⌝ }
+    ensures { λ r. ⌜ r ≡ slotsFrom (numberFrom (now (n .entry))) b ⌝ }
 {
     let mut slots = [control::zero_slot(); SLOTS];
     for s in 0..SLOTS {
@@ -96,7 +96,7 @@ fn read_slots(n: &[u32], b: usize) -> [Slot; SLOTS]
 // A thread's own numbers, with its slots.
 fn read_own(n: &[u32], b: usize, slots: [Slot; SLOTS]) -> Thread
     requires { ⌜ b + ownLength ≤ length (now n) ⌝ }
-    ensures { λ r. ⌜ r ≡ ownFrom (placed (now (n .entry))) b slots ⌝ }
+    ensures { λ r. ⌜ r ≡ ownFrom (numberFrom (now (n .entry))) b slots ⌝ }
 {
     Thread {
         dst: Dst {
@@ -121,7 +121,7 @@ fn read_own(n: &[u32], b: usize, slots: [Slot; SLOTS]) -> Thread
 
 fn read_thread(n: &[u32], b: usize) -> Thread
     requires { ⌜ b + threadLength ≤ length (now n) ⌝ }
-    ensures { λ r. ⌜ r ≡ threadFrom (placed (now (n .entry))) b ⌝ }
+    ensures { λ r. ⌜ r ≡ threadFrom (numberFrom (now (n .entry))) b ⌝ }
 {
     read_own(n, b, read_slots(n, b + OWN))
 }

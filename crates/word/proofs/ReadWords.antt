@@ -1,6 +1,6 @@
 -- What the word reader answers, by the entry that is found; and what a word that is read has. Assumes nothing.
-use mathlib.Core.Path.{_≡_, refl, subst, sym, _∙_}
-use mathlib.Core.Bool.{Bool, true, false, cond, not}
+use mathlib.Core.Path.{_≡_, refl, subst, _∙_}
+use mathlib.Core.Bool.{Bool, true, false, not}
 use mathlib.Core.Option.{Option, none, some}
 use Prim.Native.Nat.{ℕ}
 use native.Mathlib.Omega.{arith}
@@ -15,7 +15,7 @@ use Rattle.word.specs.declared.Class.the-variants as class
 use Rattle.word.specs.declared.Operands.{Operands}
 use Rattle.word.specs.declared.Read.{Read}
 use Rattle.word.specs.declared.Read.the-variants as read
-use Rattle.word.specs.declared.Refusal.the-variants.{UnknownOpcode, UnnamedBit}
+use Rattle.word.specs.declared.Refusal.the-variants.{UnknownOpcode}
 use Rattle.word.proofs.Rule.{mask-ranges}
 
 -- ---- by the entry that is found
@@ -34,24 +34,17 @@ read-none w e = read-in w ∙ go (rowOf w) e
     go none e = refl
     go (some r) e = absurd (let z : _≡_ {A = ℕ} 0 1 = cc in omega arith)
 
-pub read-at : (w : ℕ) (e : Entry) → foundOf (rowOf w) ≡ At e
-    → readWord w ≡ cond (masked w (e .1)) (read.Operands (operandsOf (e .2) w)) (read.Refused UnnamedBit)
+pub read-at : (w : ℕ) (e : Entry) → foundOf (rowOf w) ≡ At e → readWord w ≡ readAs false (not (masked w (e .1))) (operandsOf (e .2) w)
 read-at w e h = read-in w ∙ go (rowOf w) refl h
   where
-    flip : {A : Type 0} (b : Bool) (x y : A) → cond b x y ≡ cond (not b) y x
-    flip true x y = refl
-    flip false x y = refl
-
     entry : (r : Row) → At (entryOf r) ≡ At e → entryOf r ≡ e
     entry r h = cc
 
-    go : (o : Option Row) → rowOf w ≡ o → foundOf o ≡ At e
-        → readIn o w ≡ cond (masked w (e .1)) (read.Operands (operandsOf (e .2) w)) (read.Refused UnnamedBit)
+    go : (o : Option Row) → rowOf w ≡ o → foundOf o ≡ At e → readIn o w ≡ readAs false (not (masked w (e .1))) (operandsOf (e .2) w)
     go none q h = absurd (let z : _≡_ {A = ℕ} 0 1 = cc in omega arith)
     go (some r) q h =
-        flip (strayIn (some r) w) (read.Refused UnnamedBit) (read.Operands (operandsOf (r .class) w))
-        ∙ (λ j. cond (sym (mask-ranges w r q) j) (read.Operands (operandsOf (r .class) w)) (read.Refused UnnamedBit))
-        ∙ (λ j. cond (masked w (entry r h j .1)) (read.Operands (operandsOf (entry r h j .2) w)) (read.Refused UnnamedBit))
+        (λ j. readAs false (mask-ranges w r q j) (operandsOf (r .class) w))
+        ∙ (λ j. readAs false (not (masked w (entry r h j .1))) (operandsOf (entry r h j .2) w))
 
 -- ---- a word that is read is of a known opcode, and all its bits are named
 

@@ -14,7 +14,7 @@ use Rattle.cells.specs.Cells.{between}
 use Rattle.cells.specs.Tests.{below}
 use Rattle.cells.proofs.Tests.{below-of}
 use Rattle.cells.proofs.Cells.{split, both}
-use Rattle.word.specs.Bits.{bit, inRanges}
+use Rattle.word.specs.Bits.{bit, inRanges, someBelow}
 use Rattle.word.specs.Table.{Row, table, lookup, noRow}
 use Rattle.word.specs.Entries.{maskOf, masked}
 use Rattle.word.specs.Word.{opcodeOf, rowOf, strayAt, strayIn}
@@ -64,16 +64,20 @@ rule : every right table ≡ true
 unfolding table between
 rule = refl
 
--- so the mask says what the ranges say
-pub mask-ranges : (w : ℕ) (r : Row) → rowOf w ≡ some r → masked w (maskOf (r .named)) ≡ not (strayIn (some r) w)
+-- so the mask says what the ranges say: an unnamed bit is 1 just where masking changes the word
+pub mask-ranges : (w : ℕ) (r : Row) → rowOf w ≡ some r → strayIn (some r) w ≡ not (masked w (maskOf (r .named)))
 mask-ranges w r e =
     let m = maskOf (r .named) in
     let is = below-of (λ i. same (bit m i) (inRanges (r .named) i)) 24 (found-right right table (opcodeOf w) r rule e) in
-    mask-bits 24 (w % 2 ^ 24) m (omega arith)
-    ∙ ap not
-    (some-same (λ i. bit (w % 2 ^ 24) i && not (bit m i)) (strayAt (r .named) w) 24
+    sym
+    (ap not (mask-bits 24 (w % 2 ^ 24) m (omega arith)) ∙ not-not (someBelow (λ i. bit (w % 2 ^ 24) i && not (bit m i)) 24)
+    ∙ some-same (λ i. bit (w % 2 ^ 24) i && not (bit m i)) (strayAt (r .named) w) 24
     (λ i h. λ j. low-bit w i h j && not (same-is (bit m i) (inRanges (r .named) i) (is i h) j)))
   where
+    not-not : (b : Bool) → not (not b) ≡ b
+    not-not true = refl
+    not-not false = refl
+
     low-bit : (w i : ℕ) → i < 24 → bit (w % 2 ^ 24) i ≡ bit w i
     low-bit w i h =
         let whole : 24 ≡ 23 - i + 1 + i = omega arith in

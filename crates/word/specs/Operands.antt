@@ -1,5 +1,6 @@
 -- Document 01, "Instruction fields": a word taken apart by its class. Definitions only.
 use Prim.Native.Nat.{ℕ, _<_}
+use Rattle.cells.specs.Layout.{threadRegisters}
 use Rattle.word.specs.Bits.{bits, bit}
 use Rattle.word.specs.declared.Clear.{Clear}
 use Rattle.word.specs.declared.Which.{Which}
@@ -51,7 +52,7 @@ operandsOf class.Bitwise w = scalarOf operation.Bitwise w
 operandsOf class.Shift w = scalarOf operation.Shift w
 operandsOf class.Compare w = scalarOf operation.Compare w
 
--- ---- what is known of the operands that are read: a register number has six bits
+-- ---- what is known of the operands that are read: a register number is one of the 64 of a thread
 
 abbrev pub OperandsOk : Operands → Type 0
 OperandsOk (operands.Multiply m) = Unit {0}
@@ -62,4 +63,4 @@ OperandsOk (operands.ZeroSrc z) = Unit {0}
 OperandsOk (operands.ShiftA mode) = Unit {0}
 OperandsOk (operands.ShiftB s) = Unit {0}
 OperandsOk operands.NoEffect = Unit {0}
-OperandsOk (operands.Scalar s) = (s .a < 64) × (s .b < 64) × (s .result < 64)
+OperandsOk (operands.Scalar s) = (s .a < threadRegisters) × (s .b < threadRegisters) × (s .result < threadRegisters)

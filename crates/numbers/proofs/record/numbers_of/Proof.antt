@@ -4,14 +4,14 @@ use native.Mathlib.Omega.{arith}
 use lib.Dec.{eqb}
 use borrow.Author.Needs.{needs}
 use Rattle.control.proofs.Arrays.{Passed, passed-none, passed-more, passed-all}
-use Rattle.numbers.specs.Record.{placed, numbersOf}
+use Rattle.numbers.specs.Record.{numberFrom, numbersOf}
 use Rattle.numbers.specs.Lists.{numberAt}
 use Rattle.numbers.specs.Places.{recordLength}
 use Rattle.numbers.proofs.record.numbers_of.Statement.{statement}
 use Rattle.numbers.proofs.record.numbers_of.Tie as tie
 
 abbrev Inv-loop : tie.InvT-loop
-Inv-loop n c same₀ p₀ same p = Passed (λ (k : ℕ). eqb (placed n k) (numberAt c k)) recordLength same p
+Inv-loop n c same₀ p₀ same p = Passed (λ (k : ℕ). eqb (numberFrom n k) (numberAt c k)) recordLength same p
 
 abbrev μ-loop : tie.MeasureT-loop
 μ-loop n c same₀ p₀ same p = recordLength - p

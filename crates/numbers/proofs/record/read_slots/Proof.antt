@@ -5,13 +5,13 @@ use native.Mathlib.Omega.{arith}
 use borrow.Author.Needs.{needs}
 use Rattle.cells.proofs.Tables.{Filled, filled-more, filled-all}
 use Rattle.control.specs.Record.{slotCount}
-use Rattle.numbers.specs.Record.{slotFrom, slotsFrom, placed}
+use Rattle.numbers.specs.Record.{slotFrom, slotsFrom, numberFrom}
 use Rattle.numbers.specs.Places.{slotLength}
 use Rattle.numbers.proofs.record.read_slots.Statement.{statement}
 use Rattle.numbers.proofs.record.read_slots.Tie as tie
 
 abbrev Inv-loop : tie.InvT-loop
-Inv-loop n b slots₀ s₀ slots s = Filled (λ (k : ℕ). slotFrom (placed n) (b + slotLength * k)) slotCount slots s
+Inv-loop n b slots₀ s₀ slots s = Filled (λ (k : ℕ). slotFrom (numberFrom n) (b + slotLength * k)) slotCount slots s
 
 abbrev μ-loop : tie.MeasureT-loop
 μ-loop n b slots₀ s₀ slots s = slotCount - s
