@@ -8,7 +8,7 @@ use crate::payload;
 use cells::Width;
 ghost use mathlib.Core.Path.{_≡_};
 ghost use Rattle.job.specs.Kinds.{readKind};
-ghost use Rattle.job.specs.Fields.{jobWidth, fieldAt};
+ghost use Rattle.job.specs.Fields.{jobWidth, wholeField, fieldAt};
 
 // The width of Dst's rows, from the settings' format and flags: they come first.
 pub fn job_width(job: &[u8]) -> Width
@@ -23,20 +23,57 @@ pub fn job_width(job: &[u8]) -> Width
     )
 }
 
-// A field of the job; those of Dst rows go by the job's width.
-pub fn read_kind(job: &[u8], tag: u8, payload: &[u8]) -> Kind
-    ensures { λ r. ⌜ r ≡ readKind (jobWidth (now (job .entry))) tag (now (payload .entry)) ⌝ }
+// A whole field by its tag; those of Dst rows go by the job's width. The field is made in each arm: one kind for all
+// of them would be put together byte by byte.
+fn read_field(job: &[u8], place: usize, tag: u8, payload: &[u8], next: usize) -> Field
+    ensures { λ r. ⌜ r ≡ wholeField place (readKind (jobWidth (now (job .entry))) tag (now (payload .entry))) next ⌝ }
 {
     match tag {
-        1 => payload::read_settings(payload),
-        2 => payload::read_load_rows(job_width(job), payload),
-        3 => payload::read_load_register(payload),
-        4 => payload::read_hand_over(payload),
-        5 => payload::read_issue(payload),
-        6 => payload::read_output_rows(job_width(job), payload),
-        7 => payload::read_output_register(payload),
-        8 => payload::read_zero_rows(job_width(job), payload),
-        _ => Kind::Wrong(Cause::Tag),
+        1 => Field {
+            place,
+            kind: payload::read_settings(payload),
+            next,
+        },
+        2 => Field {
+            place,
+            kind: payload::read_load_rows(job_width(job), payload),
+            next,
+        },
+        3 => Field {
+            place,
+            kind: payload::read_load_register(payload),
+            next,
+        },
+        4 => Field {
+            place,
+            kind: payload::read_hand_over(payload),
+            next,
+        },
+        5 => Field {
+            place,
+            kind: payload::read_issue(payload),
+            next,
+        },
+        6 => Field {
+            place,
+            kind: payload::read_output_rows(job_width(job), payload),
+            next,
+        },
+        7 => Field {
+            place,
+            kind: payload::read_output_register(payload),
+            next,
+        },
+        8 => Field {
+            place,
+            kind: payload::read_zero_rows(job_width(job), payload),
+            next,
+        },
+        _ => Field {
+            place,
+            kind: Kind::Wrong(Cause::Tag),
+            next,
+        },
     }
 }
 
@@ -62,10 +99,5 @@ pub fn field_at(job: &[u8], at: usize) -> Field
         return cut;
     }
     let e = b + len;
-    let kind = read_kind(job, job[at], &job[b..e]);
-    Field {
-        place: at,
-        kind,
-        next: e,
-    }
+    read_field(job, at, job[at], &job[b..e], e)
 }

@@ -49,27 +49,27 @@ returns-3 c =
 add-e : tie.Need-add-e
 add-e c = search needs
 
-shared-slice-read-read-kind : tie.Need-shared-slice-read-read-kind
-shared-slice-read-read-kind c = search needs
+shared-slice-read-read-field : tie.Need-shared-slice-read-read-field
+shared-slice-read-read-field c = search needs
 
-sub-read-kind : tie.Need-sub-read-kind
-sub-read-kind c = search needs
+sub-read-field : tie.Need-sub-read-field
+sub-read-field c = search needs
 
-part-read-kind-start : tie.Need-part-read-kind-start
-part-read-kind-start c = search needs
+part-read-field-start : tie.Need-part-read-field-start
+part-read-field-start c = search needs
 
-part-read-kind-end : tie.Need-part-read-kind-end
-part-read-kind-end c = search needs
+part-read-field-end : tie.Need-part-read-field-end
+part-read-field-end c = search needs
 
-read-kind-requires : tie.Need-read-kind-requires
-read-kind-requires c κs = search needs
+read-field-requires : tie.Need-read-field-requires
+read-field-requires c κs = search needs
 
 returns-4 : tie.Need-returns-4
 unfolding fieldAt
 returns-4 c =
     let a = c .before .before .before .before .before .before .before .before .args in
     let h : endAt (now (a .job)) (a .at) ≤ length (now (a .job)) = omega arith in
-    simp (le-leb _ _ h, c .read-kind .ensures, (c .before .before .before .before .read2 .ensures) .0, add-sub-cancel-left)
+    simp (le-leb _ _ h, c .read-field .ensures, (c .before .before .before .before .read2 .ensures) .0, add-sub-cancel-left)
 
 pub field-at-spec : {M : Type 1} → statement M
 field-at-spec =
@@ -84,9 +84,9 @@ field-at-spec =
     sub-if3
     returns-3
     add-e
-    shared-slice-read-read-kind
-    sub-read-kind
-    part-read-kind-start
-    part-read-kind-end
-    read-kind-requires
+    shared-slice-read-read-field
+    sub-read-field
+    part-read-field-start
+    part-read-field-end
+    read-field-requires
     returns-4)

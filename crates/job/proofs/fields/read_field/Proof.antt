@@ -1,9 +1,9 @@
--- `job::fields::read_kind` meets its contract: tag by tag. Assumes nothing.
+-- `job::fields::read_field` meets its contract: tag by tag. Assumes nothing.
 use Rattle.job.specs.Kinds.{readKind}
 use borrow.Author.Tests.{ne-eqb}
 use borrow.Author.Needs.{needs}
-use Rattle.job.proofs.fields.read_kind.Statement.{statement}
-use Rattle.job.proofs.fields.read_kind.Tie as tie
+use Rattle.job.proofs.fields.read_field.Statement.{statement}
+use Rattle.job.proofs.fields.read_field.Tie as tie
 
 read-settings-requires : tie.Need-read-settings-requires
 read-settings-requires c κs = search needs
@@ -74,8 +74,8 @@ returns-9 : tie.Need-returns-9
 unfolding readKind
 returns-9 c = let r = (c .match .rest) in simp (ne-eqb _ _ (r .1), ne-eqb _ _ (r .0 .1), ne-eqb _ _ (r .0 .0 .1), ne-eqb _ _ (r .0 .0 .0 .1), ne-eqb _ _ (r .0 .0 .0 .0 .1), ne-eqb _ _ (r .0 .0 .0 .0 .0 .1), ne-eqb _ _ (r .0 .0 .0 .0 .0 .0 .1), ne-eqb _ _ (r .0 .0 .0 .0 .0 .0 .0 .1))
 
-pub read-kind-spec : {M : Type 1} → statement M
-read-kind-spec =
+pub read-field-spec : {M : Type 1} → statement M
+read-field-spec =
     tie.close
     (tie.spec
     read-settings-requires
