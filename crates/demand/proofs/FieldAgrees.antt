@@ -88,7 +88,7 @@ module _ (c : Control) (m : Marks) (range : inRange c ≡ true) (w : Width) (d e
   pub field-done : (k : Kind) → Says w tag p k → lowest (fieldRules c m k) ≡ Done → stepVerdict c k d ≡ Done
   unfolding stepVerdict
   field-done kind.Settings i h = refl
-  field-done (kind.Issue t x) i h = verdict-done c m t x h range i d (left-sized w m d e s)
+  field-done (kind.Issue t x) i h = verdict-done c m t x h range (i .0) d (left-sized w m d e s)
   field-done (kind.HandOver file) i h = refl
   field-done (kind.Writes x) i h = refl
   field-done (kind.Prints o) i h = refl
@@ -118,7 +118,7 @@ module _ (c : Control) (m : Marks) (range : inRange c ≡ true) (w : Width) (d e
   unfolding fieldMarks performed wordSets wordUnsets
   field-agrees job place kind.Settings i q h = s
   field-agrees job place (kind.Issue t x) i q h =
-      rw (state-is c m t x h range i d (left-sized w m d e s), state-is c m t x h range i e (right-sized w m d e s))
+      rw (state-is c m t x h range (i .0) d (left-sized w m d e s), state-is c m t x h range (i .0) e (right-sized w m d e s))
       (word-agrees w m d e s c t (acting x) (q refl) (reads-set c m t x h))
   field-agrees job place (kind.HandOver file) i q h = s
   field-agrees job place (kind.Writes x) i q h = write-agrees job place x i

@@ -42,15 +42,15 @@ module _ (w : Width) (n : ℕ) (m : List Bool) (d e : List ℕ) (s : Same w byRo
       ∷ rows-same (suc first) count (λ r a b. h r (omega arith) (omega arith)) i
 
 -- an output that breaks no rule under the marks m prints the same under any marks n that m stays in
-output-same : (w : Width) (m n : Marks) (o : Output) (d e : State) → OutputSays w o → lowest (outputRules m o) ≡ Done → Stays m n → Agree w n d e
+output-same : (w : Width) (tag : ℕ) (p : List ℕ) (m n : Marks) (o : Output) (d e : State) → OutputSays w tag p o → lowest (outputRules m o) ≡ Done → Stays m n → Agree w n d e
     → outputLines o d ≡ outputLines o e
 unfolding outputLines
-output-same w m n (Rows v rows) d e i h z s =
+output-same w tag p m n (Rows v rows) d e i h z s =
     let set = not-false _ (alone-done UnsetRead (not (allSet (m .dst) rows)) h) in
     rw (i .1)
     (rows-same w dstNumbers (n .dst) (d .dst) (e .dst) (s .dst) (rows .first) (rows .count)
     (λ r a b. z .dst r (set-at (m .dst) rows r set (between-in (rows .first) (rows .first + rows .count) r a b))))
-output-same w m n (Register t r) d e i h z s =
+output-same w tag p m n (Register t r) d e i h z s =
     let set = not-false _ (alone-done UnsetRead (not (allSet (m .registers) (oneRegister t r))) h) in
     λ j. value t r (number-same alone registerCount (n .registers) (d .registers) (e .registers) (s .registers) (register t r) (z .registers (register t r) (one-set (m .registers) (register t r) set)) j) ∷ []
 
@@ -61,5 +61,5 @@ lines-same w tag p c m n kind.Settings d e i h z s = refl
 lines-same w tag p c m n (kind.Issue t x) d e i h z s = refl
 lines-same w tag p c m n (kind.HandOver file) d e i h z s = refl
 lines-same w tag p c m n (kind.Writes x) d e i h z s = refl
-lines-same w tag p c m n (kind.Prints o) d e i h z s = output-same w m n o d e i h z s
+lines-same w tag p c m n (kind.Prints o) d e i h z s = output-same w tag p m n o d e i h z s
 lines-same w tag p c m n (kind.Wrong x) d e i h z s = refl

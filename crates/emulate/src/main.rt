@@ -9,5 +9,5 @@ fn main() {
     let mut dst = [0u32; cells::DST_NUMBERS];
     let mut registers = [0u32; cells::REGISTERS];
     let outcome = run::run(job, &mut srca, &mut srcb, &mut dst, &mut registers);
-    show::put_outcome(job, outcome, &dst, &registers);
+    show::put_run(job, outcome, &dst, &registers);
 }

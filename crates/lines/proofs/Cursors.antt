@@ -22,13 +22,13 @@ use Rattle.job.proofs.Walk.{grows, place-at, fields-end, fields-step}
 use Rattle.cells.specs.State.{State}
 use Rattle.lines.specs.Lines.{Line, row, columns, rowLines, outputLines, fieldLines, linesFrom, linesOf}
 use Rattle.lines.specs.Text.{lineOf}
-use Rattle.lines.specs.Cursor.{startCursor, linesAt, lineCount, whatAt, nextIn, nextFrom, nextOf, readOn, walk}
+use Rattle.lines.specs.Cursor.{answeredCursor, lineCursor, linesAt, lineCount, whatAt, nextIn, nextFrom, nextLine}
 use Rattle.lines.specs.declared.Cursor.{Cursor}
-use Rattle.lines.specs.declared.What.{What}
-use Rattle.lines.specs.declared.Found.{Found}
-use Rattle.lines.specs.declared.Found.the-variants as found
+use Rattle.lines.specs.declared.found.What.{What}
+use Rattle.lines.specs.declared.found.Found.{Found}
+use Rattle.lines.specs.declared.found.Found.the-variants as found
 
--- ---- a turn of `next`: f is a field of kind k, i lines from there on were read
+-- ---- a turn of `next_line`: f is a field of kind k, i lines from there on were read
 
 module _ (f : Field) (fs : List Field) (i : ℕ) where
   -- a field that prints nothing
@@ -38,7 +38,7 @@ module _ (f : Field) (fs : List Field) (i : ℕ) where
 
   -- an output of n lines
   module _ (o : Output) (q : f .kind ≡ Prints o) (n : ℕ) (p : n ≡ lineCount o) where
-    pub next-here : i < n → nextFrom (f ∷ fs) i ≡ found.Line (whatAt o i) (record { at = f .place; line = i + 1 })
+    pub next-here : i < n → nextFrom (f ∷ fs) i ≡ found.Line (whatAt o i) (lineCursor (f .place) (i + 1))
     unfolding nextFrom nextIn
     next-here h = let l : i < lineCount o = rw p at h in rw (q, lt-ltb i (lineCount o) l)
 
@@ -83,9 +83,10 @@ drop-output (Register t r) s (suc i) h = absurd (omega arith)
 
 -- ---- reading on
 
-nothing : (l : List Line) → length l ≤ 0 → l ≡ []
-nothing [] h = refl
-nothing (x ∷ l) h = absurd (omega arith)
+-- a line that was found and the lines after it
+unfoldable readOn : Found → (Cursor → List Line) → State → List Line
+readOn found.End rest s = []
+readOn (found.Line w c) rest s = lineOf w (s .dst) (s .registers) ∷ rest c
 
 module _ (job : List ℕ) (s : State) where
   -- what was found, and the lines after it
@@ -98,7 +99,7 @@ module _ (job : List ℕ) (s : State) where
 
   -- an output: one of its own lines, or one of those after it
   found-output : (f : Field) (fs : List Field) (o : Output) → f .kind ≡ Prints o → FoundFrom fs
-      → ((i : ℕ) → linesAt job (record { at = f .place; line = i }) s ≡ drop i (linesFrom (f ∷ fs) s)) → FoundFrom (f ∷ fs)
+      → ((i : ℕ) → linesAt job (lineCursor (f .place) i) s ≡ drop i (linesFrom (f ∷ fs) s)) → FoundFrom (f ∷ fs)
   unfolding linesFrom fieldLines readOn
   found-output f fs o q rest back i =
       let m = lineCount o in
@@ -123,7 +124,7 @@ module _ (job : List ℕ) (s : State) where
       ∙ sym (ap reads (next-on f fs i o q m refl h)))
 
   found-field : (f : Field) (fs : List Field) → FoundFrom fs
-      → ((i : ℕ) → linesAt job (record { at = f .place; line = i }) s ≡ drop i (linesFrom (f ∷ fs) s)) → (k : Kind) → f .kind ≡ k → FoundFrom (f ∷ fs)
+      → ((i : ℕ) → linesAt job (lineCursor (f .place) i) s ≡ drop i (linesFrom (f ∷ fs) s)) → (k : Kind) → f .kind ≡ k → FoundFrom (f ∷ fs)
   unfolding linesFrom fieldLines nextFrom nextIn
   found-field f fs rest back Settings q i = rw q (rest i)
   found-field f fs rest back (Issue t w) q i = rw q (rest i)
@@ -137,7 +138,7 @@ module _ (job : List ℕ) (s : State) where
   none at h i = rw (fields-end job at h) (drop-nil i ∙ sym (ap reads (next-none i)))
 
   -- the lines from a cursor at a field are those of the fields from there on
-  back : (at : ℕ) → at < length job → (i : ℕ) → linesAt job (record { at = fieldAt job at .place; line = i }) s ≡ drop i (linesFrom (fieldAt job at ∷ fieldsFrom job (fieldAt job at .next)) s)
+  back : (at : ℕ) → at < length job → (i : ℕ) → linesAt job (lineCursor (fieldAt job at .place) i) s ≡ drop i (linesFrom (fieldAt job at ∷ fieldsFrom job (fieldAt job at .next)) s)
   unfolding linesAt
   back at h i =
       ap (λ (n : ℕ). drop i (linesFrom (fieldsFrom job n) s)) (place-at job at) ∙ ap (λ (fs : List Field). drop i (linesFrom fs s)) (fields-step job at h)
@@ -153,40 +154,20 @@ module _ (job : List ℕ) (s : State) where
       (found-field (fieldAt job at) (fieldsFrom job (fieldAt job at .next)) (go n (fieldAt job at .next) (omega arith)) (back at h) (fieldAt job at .kind) refl))
       (λ e. none at (ltb-false at (length job) e))
 
-  -- the lines from a cursor on are what `next` finds there, then the lines from the cursor after it on
-  pub read-on : (c : Cursor) → linesAt job c s ≡ readOn (nextOf job c) (λ d. linesAt job d s) s
-  unfolding linesAt nextOf
+  -- the lines from a cursor on are what `next_line` finds there, then the lines from the cursor after it on
+  read-on : (c : Cursor) → linesAt job c s ≡ readOn (nextLine job c) (λ d. linesAt job d s) s
+  unfolding linesAt nextLine
   read-on c = go (length job) (c .at) (omega arith) (c .line)
 
   module _ (c : Cursor) where
-    pub at-line : (w : What) (d : Cursor) → nextOf job c ≡ found.Line w d → linesAt job c s ≡ lineOf w (s .dst) (s .registers) ∷ linesAt job d s
+    pub at-line : (w : What) (d : Cursor) → nextLine job c ≡ found.Line w d → linesAt job c s ≡ lineOf w (s .dst) (s .registers) ∷ linesAt job d s
     unfolding readOn
     at-line w d e = read-on c ∙ ap reads e
 
-    pub at-end : nextOf job c ≡ found.End → linesAt job c s ≡ []
+    pub at-end : nextLine job c ≡ found.End → linesAt job c s ≡ []
     unfolding readOn
     at-end e = read-on c ∙ ap reads e
 
-    -- a loop that reads on ends
-    pub fewer : (w : What) (d : Cursor) → nextOf job c ≡ found.Line w d → length (linesAt job d s) < length (linesAt job c s)
-    fewer w d e = omega (arith, ap length (at-line w d e))
-
-  walk-found : (n : ℕ) (r : Found) → ((d : Cursor) → length (linesAt job d s) ≤ n → walk n job d s ≡ linesAt job d s)
-      → length (reads r) ≤ suc n → readOn r (λ d. walk n job d s) s ≡ reads r
-  unfolding readOn
-  walk-found n found.End ih h = refl
-  walk-found n (found.Line w d) ih h = ap (λ (l : List Line). lineOf w (s .dst) (s .registers) ∷ l) (ih d (omega arith))
-
-  walk-from : (n : ℕ) (c : Cursor) → length (linesAt job c s) ≤ n → walk n job c s ≡ linesAt job c s
-  unfolding walk
-  walk-from zero c h = sym (nothing (linesAt job c s) h)
-  walk-from (suc n) c h =
-      walk-found n (nextOf job c) (walk-from n) (rw (read-on c) at h) ∙ sym (read-on c)
-
-  pub lines-at-start : linesAt job startCursor s ≡ linesOf job s
+  pub lines-at-start : linesAt job answeredCursor s ≡ linesOf job s
   unfolding linesAt linesOf
   lines-at-start = refl
-
-  -- reading by the cursor from the start gives the lines of the job
-  pub walk-all : (n : ℕ) → length (linesOf job s) ≤ n → walk n job startCursor s ≡ linesOf job s
-  walk-all n h = walk-from n startCursor (rw lines-at-start h) ∙ lines-at-start

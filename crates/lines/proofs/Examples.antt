@@ -8,16 +8,17 @@ use Rattle.cells.specs.declared.Width.the-variants.{Bits32, Bits16}
 use Rattle.cells.specs.Places.{halfAt, getAt}
 use Rattle.cells.specs.State.{state}
 use Rattle.lines.specs.Lines.{value, columns, outputLines, fieldLines, linesFrom, linesOf}
+use Rattle.word.specs.Refusal.{numberOf}
 use Rattle.word.specs.declared.Refusal.the-variants.{UnsetRead}
 use Rattle.lines.specs.Text.{pushed, wrote, emptyText, made, decimalUpTo, decimal, hexDigit, hex, values, textOf, lineOf, finishedText, refusedText}
 use Rattle.job.specs.Fields.{jobWidth, fieldAt, fieldsUpTo, fieldsFrom}
 use Rattle.job.specs.Kinds.{settingsKind, loadRegister, issue, outputRows, outputRegister, readKind}
 use Rattle.job.specs.Settings.{slotOf, threadRight, settingsRight}
 use Rattle.job.proofs.Examples.{worked}
-use Rattle.lines.specs.Cursor.{startCursor, nextIn, nextFrom, nextOf}
+use Rattle.lines.specs.Cursor.{answeredCursor, lineCursor, nextIn, nextFrom, nextLine}
 use Rattle.lines.specs.declared.Cursor.{Cursor}
-use Rattle.lines.specs.declared.Found.the-variants as found
-use Rattle.lines.specs.declared.What.the-variants.{Row, Register}
+use Rattle.lines.specs.declared.found.Found.the-variants as found
+use Rattle.lines.specs.declared.found.What.the-variants.{Row, Register}
 
 -- `finished 1`
 finished-1 : finishedText 1 ≡ 102 ∷ 105 ∷ 110 ∷ 105 ∷ 115 ∷ 104 ∷ 101 ∷ 100 ∷ 32 ∷ 49 ∷ 10 ∷ []
@@ -31,7 +32,7 @@ unfolding textOf lineOf decimal decimalUpTo values hex hexDigit
 register-0-3 = refl
 
 -- `refused 8 at 180`
-refused-8 : refusedText UnsetRead 180 ≡ 114 ∷ 101 ∷ 102 ∷ 117 ∷ 115 ∷ 101 ∷ 100 ∷ 32 ∷ 56 ∷ 32 ∷ 97 ∷ 116 ∷ 32 ∷ 49 ∷ 56 ∷ 48 ∷ 10 ∷ []
+refused-8 : refusedText (numberOf UnsetRead) 180 ≡ 114 ∷ 101 ∷ 102 ∷ 117 ∷ 115 ∷ 101 ∷ 100 ∷ 32 ∷ 56 ∷ 32 ∷ 97 ∷ 116 ∷ 32 ∷ 49 ∷ 56 ∷ 48 ∷ 10 ∷ []
 unfolding refusedText decimal decimalUpTo
 refused-8 = refl
 
@@ -65,21 +66,21 @@ abbrev outputs : List ℕ
 outputs = 6 ∷ 3 ∷ 0 ∷ 7 ∷ 0 ∷ 2 ∷ 7 ∷ 2 ∷ 0 ∷ 0 ∷ 3 ∷ []
 
 abbrev cursor : ℕ → ℕ → Cursor
-cursor at i = record { at = at; line = i }
+cursor at i = lineCursor at i
 
-reads : (nextOf outputs startCursor ∷ nextOf outputs (cursor 0 1) ∷ nextOf outputs (cursor 0 2) ∷ nextOf outputs (cursor 6 1) ∷ [])
+reads : (nextLine outputs answeredCursor ∷ nextLine outputs (cursor 0 1) ∷ nextLine outputs (cursor 0 2) ∷ nextLine outputs (cursor 6 1) ∷ [])
     ≡ found.Line (Row Bits32 7) (cursor 0 1) ∷ found.Line (Row Bits32 8) (cursor 0 2) ∷ found.Line (Register 0 3) (cursor 6 1) ∷ found.End ∷ []
-unfolding nextOf nextFrom nextIn fieldsFrom fieldsUpTo fieldAt jobWidth readKind outputRows outputRegister
+unfolding nextLine nextFrom nextIn fieldsFrom fieldsUpTo fieldAt jobWidth readKind outputRows outputRegister
 reads = refl
 
 -- the paper's job has one line, at 180
-worked-line : nextOf worked startCursor ≡ found.Line (Register 0 3) (cursor 180 1)
-unfolding worked nextOf nextFrom nextIn fieldsFrom fieldsUpTo fieldAt jobWidth readKind settingsKind settingsRight threadRight slotOf loadRegister issue outputRegister
+worked-line : nextLine worked answeredCursor ≡ found.Line (Register 0 3) (cursor 180 1)
+unfolding worked nextLine nextFrom nextIn fieldsFrom fieldsUpTo fieldAt jobWidth readKind settingsKind settingsRight threadRight slotOf loadRegister issue outputRegister
 worked-line = refl
 
 -- with flags 0 instead of 1, and output rows 512 and 513 behind it, its next line is a row of the BF16 mode
-bf16-line : nextOf (set worked 4 0 ++ 6 ∷ 3 ∷ 0 ∷ 0 ∷ 2 ∷ 2 ∷ []) (cursor 180 1) ≡ found.Line (Row Bits16 512) (cursor 185 1)
-unfolding worked nextOf nextFrom nextIn fieldsFrom fieldsUpTo fieldAt jobWidth readKind outputRows outputRegister
+bf16-line : nextLine (set worked 4 0 ++ 6 ∷ 3 ∷ 0 ∷ 0 ∷ 2 ∷ 2 ∷ []) (cursor 180 1) ≡ found.Line (Row Bits16 512) (cursor 185 1)
+unfolding worked nextLine nextFrom nextIn fieldsFrom fieldsUpTo fieldAt jobWidth readKind outputRows outputRegister
 bf16-line = refl
 
 worked-lines : linesOf worked (state [] [] [] (0 ∷ 12 ∷ 0 ∷ 9 ∷ [])) ≡ value 0 3 9 ∷ []

@@ -1,4 +1,5 @@
 -- Laws of the lines and of the texts, for the programs.
 pub mod Texts
 pub mod Cursors
+pub mod Giving
 mod Examples

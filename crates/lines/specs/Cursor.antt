@@ -1,7 +1,8 @@
--- Document 01, "Numbers to check against": the lines in file order, one at a time. A cursor is a field's place and how many of the lines
--- from there on were read. Definitions only.
-use mathlib.Core.Bool.{cond}
-use mathlib.Core.List.{List, [], _∷_}
+-- Document 01, "Numbers to check against": what a run prints, one text at a time: the answer, then the lines in file order. A cursor says whether the
+-- answer was read; then a field's place, and how many of the lines from there on were read. Definitions only.
+use mathlib.Core.Path.{_≡_}
+use mathlib.Core.Bool.{true, false, cond}
+use mathlib.Core.List.{List, [], _∷_, map}
 use Prim.Native.Nat.{ℕ, zero, suc, _+_, _-_}
 use lib.Dec.{ltb}
 use lib.ListN.{drop}
@@ -12,16 +13,31 @@ use Rattle.job.specs.declared.Kind.{Kind}
 use Rattle.job.specs.declared.Kind.the-variants as kind
 use Rattle.job.specs.declared.Field.{Field}
 use Rattle.cells.specs.State.{State}
+use Rattle.word.specs.Refusal.{numberOf}
+use Rattle.run.specs.declared.Outcome.{Outcome}
+use Rattle.run.specs.declared.Outcome.the-variants.{Finished, Refused}
 use Rattle.lines.specs.Lines.{Line, linesFrom}
-use Rattle.lines.specs.Text.{lineOf}
+use Rattle.lines.specs.Text.{emptyText, made, Holds, lineOf}
+use Rattle.lines.specs.Printed.{Printed, finished, refused, line, printedBy, printedText}
+use Rattle.lines.specs.declared.Text.{Text}
+use Rattle.lines.specs.declared.Next.{Next}
 use Rattle.lines.specs.declared.Cursor.{Cursor}
-use Rattle.lines.specs.declared.What.{What}
-use Rattle.lines.specs.declared.What.the-variants as what
-use Rattle.lines.specs.declared.Found.{Found}
-use Rattle.lines.specs.declared.Found.the-variants as found
+use Rattle.lines.specs.declared.found.What.{What}
+use Rattle.lines.specs.declared.found.What.the-variants as what
+use Rattle.lines.specs.declared.found.Found.{Found}
+use Rattle.lines.specs.declared.found.Found.the-variants as found
 
 abbrev pub startCursor : Cursor
-startCursor = record { at = 0; line = 0 }
+startCursor = record { answered = false; at = 0; line = 0 }
+
+-- before the first line, and after i lines of the field at a place
+abbrev pub answeredCursor : Cursor
+answeredCursor = record { answered = true; at = 0; line = 0 }
+
+abbrev pub lineCursor : ℕ → ℕ → Cursor
+lineCursor place i = record { answered = true; at = place; line = i }
+
+-- ---- which line
 
 -- the lines from a cursor on
 unfoldable pub linesAt : List ℕ → Cursor → State → List Line
@@ -43,7 +59,7 @@ nextIn (kind.Issue t w) place i rest = rest i
 nextIn (kind.HandOver file) place i rest = rest i
 nextIn (kind.Writes x) place i rest = rest i
 nextIn (kind.Prints o) place i rest =
-    cond (ltb i (lineCount o)) (found.Line (whatAt o i) (record { at = place; line = i + 1 })) (rest (i - lineCount o))
+    cond (ltb i (lineCount o)) (found.Line (whatAt o i) (lineCursor place (i + 1))) (rest (i - lineCount o))
 nextIn (kind.Wrong x) place i rest = rest i
 
 -- the next line of a list of fields
@@ -51,15 +67,51 @@ unfoldable pub nextFrom : List Field → ℕ → Found
 nextFrom [] i = found.End
 nextFrom (f ∷ fs) i = nextIn (f .kind) (f .place) i (λ n. nextFrom fs n)
 
-unfoldable pub nextOf : List ℕ → Cursor → Found
-nextOf job c = nextFrom (fieldsFrom job (c .at)) (c .line)
+unfoldable pub nextLine : List ℕ → Cursor → Found
+nextLine job c = nextFrom (fieldsFrom job (c .at)) (c .line)
 
--- a line that was found and the lines after it
-unfoldable pub readOn : Found → (Cursor → List Line) → State → List Line
-readOn found.End rest s = []
-readOn (found.Line w c) rest s = lineOf w (s .dst) (s .registers) ∷ rest c
+-- ---- which text
 
--- the lines that reading by the cursor gives, at most n of them: what a program's loop does
-unfoldable pub walk : ℕ → List ℕ → Cursor → State → List Line
-walk zero job c s = []
-walk (suc n) job c s = readOn (nextOf job c) (λ d. walk n job d s) s
+-- what is printed next as a text, and the cursor after it
+abbrev pub give : Printed → Cursor → Next
+give p after = record { end = false; text = made (printedText p); after = after }
+
+-- nothing is left
+abbrev pub nextEnd : Cursor → Next
+nextEnd c = record { end = true; text = emptyText; after = c }
+
+unfoldable pub lineNext : Cursor → Found → List ℕ → List ℕ → Next
+lineNext c found.End dst registers = nextEnd c
+lineNext c (found.Line w after) dst registers = give (line (lineOf w dst registers)) after
+
+-- the answer first; then the lines of a finished job
+unfoldable pub nextOf : List ℕ → Outcome → Cursor → List ℕ → List ℕ → Next
+nextOf job (Finished n) c dst registers = cond (c .answered) (lineNext c (nextLine job c) dst registers) (give (finished n) answeredCursor)
+nextOf job (Refused r place) c dst registers = cond (c .answered) (nextEnd c) (give (refused (numberOf r) place) answeredCursor)
+
+-- ---- that these are all, each once, in order
+
+-- what is printed from a cursor on
+unfoldable pub printedFrom : List ℕ → Outcome → Cursor → State → List Printed
+printedFrom job (Finished n) c s = cond (c .answered) (map line (linesAt job c s)) (printedBy job (Finished n) s)
+printedFrom job (Refused r place) c s = cond (c .answered) [] (printedBy job (Refused r place) s)
+
+-- a text is the first of what is printed from a cursor on, and the cursor after it stands before all the rest
+pub record First (job : List ℕ) (o : Outcome) (s : State) (c : Cursor) (text : Text) (after : Cursor) : Type 0 where
+  pub printed : Printed
+  pub holds : Holds text (printedText printed)
+  pub rest : printedFrom job o c s ≡ printed ∷ printedFrom job o after s
+
+-- what the next text gives: that, or nothing is left
+pub record Gives (job : List ℕ) (o : Outcome) (s : State) (c : Cursor) (x : Next) : Type 0 where
+  pub given : x .end ≡ false → First job o s c (x .text) (x .after)
+  pub ended : x .end ≡ true → printedFrom job o c s ≡ []
+
+-- a text, and those that come after it
+unfoldable pub wroteOn : Next → (Cursor → List Text) → List Text
+wroteOn x rest = cond (x .end) [] (x .text ∷ rest (x .after))
+
+-- what a program's loop writes, in at most n turns
+unfoldable pub written : ℕ → List ℕ → Outcome → Cursor → State → List Text
+written zero job o c s = []
+written (suc n) job o c s = wroteOn (nextOf job o c (s .dst) (s .registers)) (λ d. written n job o d s)

@@ -9,12 +9,10 @@ use lib.Dec.{ltb}
 use lib.ListN.{length, getD, set, take, replicate}
 use Rattle.cells.specs.Places.{digitsOf}
 use Rattle.cells.specs.Layout.{columnCount, register}
-use Rattle.word.specs.declared.Refusal.{Refusal}
-use Rattle.word.specs.Refusal.{numberOf}
 use Rattle.lines.specs.Lines.{Line, row, value, columns}
 use Rattle.lines.specs.declared.Text.{Text}
-use Rattle.lines.specs.declared.What.{What}
-use Rattle.lines.specs.declared.What.the-variants as what
+use Rattle.lines.specs.declared.found.What.{What}
+use Rattle.lines.specs.declared.found.What.the-variants as what
 
 -- ---- a text and what is written to it
 
@@ -103,8 +101,8 @@ lineOf (what.Register t r) dst registers = value t r (getD registers (register t
 unfoldable pub finishedText : ℕ → List ℕ
 finishedText n = wordFinished ++ decimal n ++ 10 ∷ []
 
-unfoldable pub refusedText : Refusal → ℕ → List ℕ
-refusedText r p = wordRefused ++ decimal (numberOf r) ++ wordAt ++ decimal p ++ 10 ∷ []
+unfoldable pub refusedText : ℕ → ℕ → List ℕ
+refusedText n p = wordRefused ++ decimal n ++ wordAt ++ decimal p ++ 10 ∷ []
 
 unfoldable pub passedText : ℕ → List ℕ
 passedText n = wordPassed ++ decimal n ++ 10 ∷ []

@@ -1,42 +1,32 @@
-// Writing to standard output: a text, and all that a run job prints.
-use lines::Found;
+// Writing to standard output: a text, and all that a run prints.
 use lines::Text;
 use run::Outcome;
 
-fn put_first(bytes: &[u8], n: usize) {
+fn put_first(bytes: &[u8], n: usize) -> bool {
     if n <= bytes.len() {
-        io::write_all(1, &bytes[..n]);
+        io::write_all(1, &bytes[..n])
+    } else {
+        false
     }
 }
 
-pub fn put(t: Text) {
+// False where it is not written whole.
+pub fn put(t: Text) -> bool {
     let bytes = t.bytes;
-    put_first(&bytes, t.len);
+    put_first(&bytes, t.len)
 }
 
-fn put_lines(job: &[u8], dst: &[u32], registers: &[u32]) {
+// All texts of a run, in their order. False where one is not written whole; none is written after it.
+pub fn put_run(job: &[u8], outcome: Outcome, dst: &[u32], registers: &[u32]) -> bool {
     let mut c = lines::start();
     loop {
-        let f = lines::next(job, c);
-        match f {
-            Found::Line { what, after } => {
-                put(lines::line_text(what, dst, registers));
-                c = after;
-            }
-            Found::End => return,
+        let n = lines::next_text(job, outcome, c, dst, registers);
+        if n.end {
+            return true;
         }
-    }
-}
-
-// The count and the lines from the final state, or the refusal.
-pub fn put_outcome(job: &[u8], outcome: Outcome, dst: &[u32], registers: &[u32]) {
-    match outcome {
-        Outcome::Finished(count) => {
-            put(lines::finished_text(count));
-            put_lines(job, dst, registers);
+        if !put(n.text) {
+            return false;
         }
-        Outcome::Refused(refusal, place) => {
-            put(lines::refused_text(refusal, place));
-        }
+        c = n.after;
     }
 }

@@ -1,12 +1,8 @@
 // Reads a job from standard input and prints whether the pre-check passes it; it runs nothing.
-use precheck::Checked;
 
 fn main() {
     let mut buffer = [0u8; cells::JOB_BYTES + 1];
     let n = io::read_full(0, &mut buffer);
     let checked = precheck::precheck(&buffer[..n]);
-    match checked {
-        Checked::Passed(count) => show::put(lines::passed_text(count)),
-        Checked::Refused(refusal, place) => show::put(lines::refused_text(refusal, place)),
-    }
+    show::put(lines::checked_text(checked));
 }

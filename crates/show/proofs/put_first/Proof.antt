@@ -1,11 +1,9 @@
+-- `show::put_first` meets its contract. Assumes nothing.
 use lib.Seq.{length-take-le}
 use mathlib.Core.Path.{sym}
 use borrow.Author.Needs.{needs}
 use Rattle.show.proofs.put_first.Statement.{statement}
 use Rattle.show.proofs.put_first.Tie as tie
-use Rattle.show.proofs.put_first.Reads as reads
-use Rattle.show.proofs.put_first.Lts as lts
-use Rattle.io.proofs.write_all.Reads as write-all-reads
 
 slice-aggregate-write-all : tie.Need-slice-aggregate-write-all
 slice-aggregate-write-all c = sym (length-take-le _ _ (c .before .if1 .taken))

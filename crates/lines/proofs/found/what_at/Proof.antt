@@ -1,9 +1,9 @@
--- `lines::what_at` meets its contract. Assumes nothing.
+-- `found::what_at` meets its contract. Assumes nothing.
 use native.Mathlib.Omega.{arith}
 use Rattle.lines.proofs.Cursors.{rows-few}
 use borrow.Author.Needs.{needs}
-use Rattle.lines.proofs.what_at.Statement.{statement}
-use Rattle.lines.proofs.what_at.Tie as tie
+use Rattle.lines.proofs.found.what_at.Statement.{statement}
+use Rattle.lines.proofs.found.what_at.Tie as tie
 
 enum-known-output : tie.Need-enum-known-output
 enum-known-output c = search needs

@@ -1,6 +1,6 @@
--- `lines::next` meets its contract. Assumes nothing.
+-- `found::next_line` meets its contract. Assumes nothing.
 use Rattle.lines.proofs.Cursors.{next-silent, next-here, next-on, next-none}
-use Rattle.lines.specs.Cursor.{nextIn, nextFrom, nextOf}
+use Rattle.lines.specs.Cursor.{nextIn, nextFrom, nextLine}
 use Rattle.job.proofs.Walk.{next-after, Reached, reached-first, reached-end, reached-stop, reached-on}
 use Rattle.job.proofs.Says.{field-in-range}
 use Rattle.job.specs.Range.{InRange}
@@ -9,8 +9,8 @@ use native.Mathlib.Omega.{arith}
 use mathlib.Core.Path.{refl, _∙_, subst}
 use Prim.Native.Nat.{_-_}
 use borrow.Author.Needs.{needs}
-use Rattle.lines.proofs.next.Statement.{statement}
-use Rattle.lines.proofs.next.Tie as tie
+use Rattle.lines.proofs.found.next_line.Statement.{statement}
+use Rattle.lines.proofs.found.next_line.Tie as tie
 
 abbrev Inv-loop : tie.InvT-loop
 Inv-loop job n at₀ line₀ at line = Reached nextFrom job at₀ line₀ at line
@@ -49,7 +49,7 @@ add-t14 : tie.Need-add-t14 Inv-loop μ-loop
 add-t14 c = search needs
 
 returns : tie.Need-returns Inv-loop μ-loop
-unfolding nextOf
+unfolding nextLine
 returns c = rw (c .what-at .ensures) (reached-stop _ _ (c .before .before .before .before .before .before .before .before .loop .inv) _ (c .before .before .before .before .before .before .before .loop-test .taken) (c .before .before .before .before .before .before .field-at .ensures) _ (next-here _ _ _ _ ((c .before .before .before .before .kind .given) .1) _ (c .before .before .line-count .ensures) (c .before .if1 .taken)))
 
 enum-told-5 : tie.Need-enum-told-5 Inv-loop μ-loop
@@ -97,11 +97,11 @@ unfolding nextIn
 loop-again-6 c = reached-on _ _ (c .before .before .before .before .loop .inv) _ (c .before .before .before .loop-test .taken) (c .before .before .field-at .ensures) _ (next-silent _ _ _ _ ((c .enum-told5 .given) .1) (λ rest. refl))
 
 returns-2 : tie.Need-returns-2 Inv-loop μ-loop
-unfolding nextOf
+unfolding nextLine
 returns-2 c = reached-end _ _ (c .before .loop .inv) _ (c .loop-test .left) (next-none _)
 
-pub next-spec : {M : Type 1} → statement M
-next-spec =
+pub next-line-spec : {M : Type 1} → statement M
+next-line-spec =
     tie.close
     (tie.spec
     Inv-loop

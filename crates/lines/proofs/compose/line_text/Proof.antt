@@ -1,12 +1,12 @@
--- `lines::line_text` meets its contract: a word, numbers and values, one after the other. Assumes nothing.
+-- `compose::line_text` meets its contract: a word, numbers and values, one after the other. Assumes nothing.
 use Rattle.lines.proofs.Texts.{row-text, value-text}
 use Rattle.lines.specs.Text.{lineOf}
 use Rattle.cells.specs.Places.{getAt}
 use native.Mathlib.Omega.{arith}
 use mathlib.Core.Path.{_∙_}
 use borrow.Author.Needs.{needs}
-use Rattle.lines.proofs.line_text.Statement.{statement}
-use Rattle.lines.proofs.line_text.Tie as tie
+use Rattle.lines.proofs.compose.line_text.Statement.{statement}
+use Rattle.lines.proofs.compose.line_text.Tie as tie
 
 enum-known-what : tie.Need-enum-known-what
 enum-known-what c = search needs

@@ -1,11 +1,11 @@
--- `lines::refused_text` meets its contract. Assumes nothing.
+-- `compose::refused_text` meets its contract. Assumes nothing.
 use mathlib.Core.Path.{_∙_}
 use native.Mathlib.Omega.{arith}
 use Rattle.lines.specs.Text.{wordRefused, wordAt, refusedText}
 use Rattle.lines.proofs.Texts.{numbers-text}
 use borrow.Author.Needs.{needs}
-use Rattle.lines.proofs.refused_text.Statement.{statement}
-use Rattle.lines.proofs.refused_text.Tie as tie
+use Rattle.lines.proofs.compose.refused_text.Statement.{statement}
+use Rattle.lines.proofs.compose.refused_text.Tie as tie
 
 number-requires : tie.Need-number-requires
 number-requires c κs = search needs

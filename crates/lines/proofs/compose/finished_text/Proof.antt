@@ -1,11 +1,11 @@
--- `lines::passed_text` meets its contract: a word and a number. Assumes nothing.
+-- `compose::finished_text` meets its contract: a word and a number. Assumes nothing.
 use Rattle.lines.proofs.Texts.{number-text}
-use Rattle.lines.specs.Text.{wordPassed, passedText}
+use Rattle.lines.specs.Text.{wordFinished, finishedText}
 use native.Mathlib.Omega.{arith}
 use mathlib.Core.Path.{_∙_}
 use borrow.Author.Needs.{needs}
-use Rattle.lines.proofs.passed_text.Statement.{statement}
-use Rattle.lines.proofs.passed_text.Tie as tie
+use Rattle.lines.proofs.compose.finished_text.Statement.{statement}
+use Rattle.lines.proofs.compose.finished_text.Tie as tie
 
 empty-requires : tie.Need-empty-requires
 empty-requires c κs = search needs
@@ -23,12 +23,12 @@ push-requires : tie.Need-push-requires
 push-requires c κs = search needs
 
 returns : tie.Need-returns
-unfolding passedText
-returns c = number-text _ wordPassed _ (omega arith) (omega arith)
+unfolding finishedText
+returns c = number-text _ wordFinished _ (omega arith) (omega arith)
     ((c .push .ensures) ∙ rw ((c .before .push-decimal .ensures), (c .before .before .push-word .ensures), (c .before .before .before .before .empty .ensures)))
 
-pub passed-text-spec : {M : Type 1} → statement M
-passed-text-spec =
+pub finished-text-spec : {M : Type 1} → statement M
+finished-text-spec =
     tie.close
     (tie.spec
     empty-requires
