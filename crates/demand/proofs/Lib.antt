@@ -1,4 +1,7 @@
 -- The proofs of demand 3, of demand 1 and of what the two Dst modes leave.
+mod Tags
+mod FieldBytes
+mod Shapes
 mod Rules
 mod MarksStay
 mod Agreement

@@ -8,14 +8,14 @@ ghost use mathlib.Core.Path.{_≡_};
 ghost use Rattle.job.specs.Shape.{settingsAt, actingAt, printingAt, placed, shapeAtEnd, shapeOf};
 
 // A job opens with its settings, then fields act, then it prints.
-enum Stage {
+pub enum Stage {
     Opening,
     Acting,
     Printing,
 }
 
 // The stage after a field, or why the field is wrong.
-enum Placed {
+pub enum Placed {
     InPlace(Stage),
     NotRight(Cause),
 }
