@@ -1,5 +1,5 @@
--- Document 01, "The job": what a field does to the lent numbers. Instructions act through the single step; the record that a step returns is the
--- one that `fieldControl` gives, so the record after a field is taken from there for every kind. Definitions only.
+-- Document 01, "The job": what a field does to the lent numbers and to the control record. An instruction acts through the single step, which
+-- gives both; the record after any other field is `fieldControl`'s. Definitions only.
 use mathlib.Core.List.{List}
 use Prim.Native.Nat.{ℕ, _-_, _*_}
 use Rattle.cells.specs.declared.layout.Span.{Span}
@@ -12,13 +12,13 @@ use Rattle.cells.specs.Layout.{rowStart, oneRegister}
 use Rattle.rules.specs.declared.Verdict.{Verdict}
 use Rattle.rules.specs.declared.Verdict.the-variants.{Done}
 use Rattle.cells.specs.State.{State, withDst, withRegisters, srcFile, withSrcFile}
-use Rattle.step.specs.Step.{verdictOf, stateOf}
+use Rattle.step.specs.Step.{verdictOf, steppedOf, stateOf}
 use Rattle.job.specs.Values.{rowValue, registerValue}
 use Rattle.job.specs.declared.Write.{Write}
 use Rattle.job.specs.declared.Write.the-variants.{LoadSrc, LoadDst, LoadRegister, ZeroRows}
 use Rattle.job.specs.declared.Kind.{Kind}
 use Rattle.job.specs.declared.Kind.the-variants as kind
-use Rattle.walk.specs.FieldRecord.{loadedRows}
+use Rattle.walk.specs.FieldRecord.{fieldControl, loadedRows}
 
 -- the number of a load that goes to place p, its first number going to place lo
 abbrev pub valueFrom : List ℕ → ℕ → ℕ → ℕ → ℕ
@@ -43,6 +43,15 @@ performed job c place (kind.HandOver file) s = s
 performed job c place (kind.Writes x) s = written job c place x s
 performed job c place (kind.Prints o) s = s
 performed job c place (kind.Wrong x) s = s
+
+-- the record after a field: after an instruction, the one that the single step gives back
+unfoldable pub controlOn : List ℕ → Control → ℕ → Kind → State → Control
+controlOn job c place kind.Settings s = fieldControl job c place kind.Settings
+controlOn job c place (kind.Issue t w) s = steppedOf c t w s .control
+controlOn job c place (kind.HandOver file) s = fieldControl job c place (kind.HandOver file)
+controlOn job c place (kind.Writes x) s = fieldControl job c place (kind.Writes x)
+controlOn job c place (kind.Prints o) s = fieldControl job c place (kind.Prints o)
+controlOn job c place (kind.Wrong x) s = fieldControl job c place (kind.Wrong x)
 
 -- whether the single step refuses an instruction; no other field refuses
 unfoldable pub stepVerdict : Control → Kind → State → Verdict

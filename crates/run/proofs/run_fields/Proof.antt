@@ -1,6 +1,6 @@
 -- `run::run_fields` meets its contract. Assumes nothing.
 use Rattle.run.proofs.Running.{Running, running-first, running-end, turn-on, step-on, step-stop}
-use Rattle.run.specs.Perform.{performed, stepVerdict}
+use Rattle.run.specs.Perform.{performed, controlOn, stepVerdict}
 use Rattle.job.proofs.Walk.{next-after}
 use Rattle.walk.specs.FieldRecord.{fieldControl}
 use Rattle.cells.proofs.Sizes.{sizes}
@@ -86,7 +86,7 @@ loop-less : tie.Need-loop-less Inv-loop μ-loop
 loop-less c = omega (arith, next-after _ _ _ (c .before .before .before .before .loop-test .taken) (c .before .before .before .field-at .ensures), (c .before .before .before .before .loop-test .taken))
 
 loop-again : tie.Need-loop-again Inv-loop μ-loop
-unfolding stepVerdict fieldControl performed
+unfolding stepVerdict controlOn fieldControl performed
 loop-again c = turn-on _ _ _ _ _ _ (c .before .before .before .before .before .loop .inv) _ (c .before .before .before .before .loop-test .taken) (c .before .before .before .field-at .ensures) _ ((c .before .enum-told .given) .1) (refl) ((c .settle-at .ensures)) (refl) (omega arith)
 
 loop-less-2 : tie.Need-loop-less-2 Inv-loop μ-loop
@@ -99,28 +99,28 @@ loop-less-3 : tie.Need-loop-less-3 Inv-loop μ-loop
 loop-less-3 c = omega (arith, next-after _ _ _ (c .before .before .before .before .before .loop-test .taken) (c .before .before .before .before .field-at .ensures), (c .before .before .before .before .before .loop-test .taken))
 
 loop-again-3 : tie.Need-loop-again-3 Inv-loop μ-loop
-unfolding stepVerdict fieldControl performed
+unfolding stepVerdict controlOn fieldControl performed
 loop-again-3 c = turn-on _ _ _ _ _ _ (c .before .before .before .before .before .before .loop .inv) _ (c .before .before .before .before .before .loop-test .taken) (c .before .before .before .before .field-at .ensures) _ ((c .before .before .kind2 .given) .1) (refl) ((c .hand-over .ensures)) (refl) (omega arith)
 
 loop-less-4 : tie.Need-loop-less-4 Inv-loop μ-loop
 loop-less-4 c = omega (arith, next-after _ _ _ (c .before .before .before .before .before .before .before .before .before .before .before .before .before .before .before .before .before .loop-test .taken) (c .before .before .before .before .before .before .before .before .before .before .before .before .before .before .before .before .field-at .ensures), (c .before .before .before .before .before .before .before .before .before .before .before .before .before .before .before .before .before .loop-test .taken))
 
 loop-again-4 : tie.Need-loop-again-4 Inv-loop μ-loop
-unfolding stepVerdict fieldControl performed
+unfolding stepVerdict controlOn fieldControl performed
 loop-again-4 c = turn-on _ _ _ _ _ _ (c .before .before .before .before .before .before .before .before .before .before .before .before .before .before .before .before .before .before .loop .inv) _ (c .before .before .before .before .before .before .before .before .before .before .before .before .before .before .before .before .before .loop-test .taken) (c .before .before .before .before .before .before .before .before .before .before .before .before .before .before .before .before .field-at .ensures) _ ((c .before .before .before .before .before .before .before .before .before .before .before .before .before .before .kind3 .given) .1) (refl) (refl) ((c .before .before .before .before .before .before .before .before .write .ensures)) (omega arith)
 
 loop-less-5 : tie.Need-loop-less-5 Inv-loop μ-loop
 loop-less-5 c = omega (arith, next-after _ _ _ (c .before .before .before .loop-test .taken) (c .before .before .field-at .ensures), (c .before .before .before .loop-test .taken))
 
 loop-again-5 : tie.Need-loop-again-5 Inv-loop μ-loop
-unfolding stepVerdict fieldControl performed
+unfolding stepVerdict controlOn fieldControl performed
 loop-again-5 c = turn-on _ _ _ _ _ _ (c .before .before .before .before .loop .inv) _ (c .before .before .before .loop-test .taken) (c .before .before .field-at .ensures) _ ((c .enum-told4 .given) .1) (refl) (refl) (refl) (omega arith)
 
 loop-less-6 : tie.Need-loop-less-6 Inv-loop μ-loop
 loop-less-6 c = omega (arith, next-after _ _ _ (c .before .before .before .loop-test .taken) (c .before .before .field-at .ensures), (c .before .before .before .loop-test .taken))
 
 loop-again-6 : tie.Need-loop-again-6 Inv-loop μ-loop
-unfolding stepVerdict fieldControl performed
+unfolding stepVerdict controlOn fieldControl performed
 loop-again-6 c = turn-on _ _ _ _ _ _ (c .before .before .before .before .loop .inv) _ (c .before .before .before .loop-test .taken) (c .before .before .field-at .ensures) _ ((c .enum-told5 .given) .1) (refl) (refl) (refl) (omega arith)
 
 same-length-5 : tie.Need-same-length-5 Inv-loop μ-loop
