@@ -28,6 +28,7 @@ use Rattle.cells.specs.State.{State, sized}
 use Rattle.step.specs.Effect.{effectOf, stateAfter}
 use Rattle.step.specs.Step.{verdictOf, stateOf}
 use Rattle.cells.proofs.Sizes.{sized-of}
+use Rattle.job.specs.Fields.{payloadAt}
 use Rattle.job.proofs.Says.{WriteSays, Says}
 use Rattle.job.specs.declared.Write.{Write}
 use Rattle.job.specs.declared.Write.the-variants.{LoadSrc, LoadDst, LoadRegister, ZeroRows}
@@ -95,7 +96,7 @@ module _ (c : Control) (m : Marks) (range : inRange c ≡ true) (w : Width) (d e
   field-done (kind.Wrong x) i h = refl
 
   -- and the states agree after it, where the record has the width too
-  write-agrees : (job : List ℕ) (place : ℕ) (x : Write) → WriteSays w tag p x → Agree w (writeMarks c m x) (written job c place x d) (written job c place x e)
+  write-agrees : (job : List ℕ) (place : ℕ) (x : Write) → WriteSays w tag p x → Agree w (writeMarks c m x) (written (payloadAt job place) c x d) (written (payloadAt job place) c x e)
   unfolding written loaded markSrc markDst markRegister
   write-agrees job place (LoadSrc A rows) i =
       record { srca = overwritten Bits32 byRow srcNumbers (m .srca) (d .srca) (e .srca) (s .srca) (loadedRows c A rows) _; srcb = s .srcb; dst = s .dst; registers = s .registers }

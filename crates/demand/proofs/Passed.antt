@@ -28,7 +28,7 @@ use Rattle.precheck.specs.Check.{checkFrom}
 use Rattle.precheck.proofs.Checking.{check-passed}
 use Rattle.run.specs.Perform.{performed, stepVerdict}
 use Rattle.run.specs.Run.{Ran, execute}
-use Rattle.run.proofs.Running.{execute-next}
+use Rattle.run.proofs.Running.{execute-done}
 use Rattle.run.specs.declared.Outcome.the-variants as outcome
 use Rattle.lines.specs.Lines.{linesFrom}
 use Rattle.demand.specs.Breaks.{isIssue, issueFields}
@@ -81,7 +81,7 @@ module _ (job : List ℕ) where
       ended fs (fieldControl job c (f .place) k) (fieldMarks c m k) (performed job c (f .place) k d) (performed job c (f .place) k e) (n + issueOf k) q (w .1) (x .1)
       (control-kept job c f r (w .0)) (y .1) (field-agrees c m r v d e s tag p job (f .place) k (w .0 .says) (x .0) (y .0)) in
       let st = stays-on m (fieldMarks c m k) (i .marks) (marks-stay c m k) (i .stay) in
-      rw (execute-next job f fs c d n (field-done c m r v d e s tag p k (w .0 .says) (y .0)), execute-next job f fs c e n (field-done c m r v e d (swap v m d e s) tag p k (w .0 .says) (y .0)))
+      rw (execute-done job f fs c d n (field-done c m r v d e s tag p k (w .0 .says) (y .0)), execute-done job f fs c e n (field-done c m r v e d (swap v m d e s) tag p k (w .0 .says) (y .0)))
       (record {
         finished = i .finished ∙ ap outcome.Finished (count-one k n (issueFields fs));
         lines = ap₂ _++_ (lines-same v tag p c m (i .marks) k _ _ (w .0 .says) (y .0) st (i .agree)) (i .lines);

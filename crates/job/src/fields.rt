@@ -8,7 +8,7 @@ use crate::payload;
 use cells::Width;
 ghost use mathlib.Core.Path.{_≡_};
 ghost use Rattle.job.specs.Kinds.{readKind};
-ghost use Rattle.job.specs.Fields.{jobWidth, wholeField, fieldAt};
+ghost use Rattle.job.specs.Fields.{payloadAt, jobWidth, wholeField, fieldAt};
 
 // The width of Dst's rows, from the settings' format and flags: they come first.
 pub fn job_width(job: &[u8]) -> Width
@@ -75,6 +75,26 @@ fn read_field(job: &[u8], place: usize, tag: u8, payload: &[u8], next: usize) ->
             next,
         },
     }
+}
+
+// The payload of the field whose tag stands at `at`: a part of the job's bytes, of a cut field what is left of it.
+pub fn payload_at(job: &[u8], at: usize) -> &[u8]
+    ensures { λ r. ⌜ now r ≡ payloadAt (now (job .entry)) at ⌝ }
+{
+    let n = job.len();
+    if n < 3 {
+        return &job[n..n];
+    }
+    if n - 3 < at {
+        return &job[n..n];
+    }
+    let b = at + 3;
+    let len = read2(job, at + 1) as usize;
+    if n - b < len {
+        return &job[b..n];
+    }
+    let e = b + len;
+    &job[b..e]
 }
 
 // The field whose tag stands at `at`; bytes that are no whole field are a wrong one, up to the end.

@@ -1,28 +1,21 @@
-// The values of load fields, in the job's bytes.
+// The values of load fields, in their payloads. A number past the end is 0.
 use crate::bytes::number_at;
 ghost use mathlib.Core.Path.{_≡_};
-ghost use Rattle.job.specs.Values.{rowValue, registerValue};
+ghost use Rattle.job.specs.Kinds.{rowValue, registerValue};
 
-// The i-th number of the load rows field whose tag stands at `place`.
-pub fn row_value(job: &[u8], place: usize, i: usize) -> u32
-    ensures { λ r. ⌜ r ≡ rowValue (now (job .entry)) place i ⌝ }
+// The i-th number of a load rows payload.
+pub fn row_value(p: &[u8], i: usize) -> u32
+    ensures { λ r. ⌜ r ≡ rowValue (now (p .entry)) i ⌝ }
 {
-    let n = job.len();
-    if n <= place {
+    if p.len() / 4 < i {
         return 0;
     }
-    if (n - place) / 4 < i {
-        return 0;
-    }
-    number_at(job, place + 6 + 4 * i)
+    number_at(p, 3 + 4 * i)
 }
 
-// The value of the load register field whose tag stands at `place`.
-pub fn register_value(job: &[u8], place: usize) -> u32
-    ensures { λ r. ⌜ r ≡ registerValue (now (job .entry)) place ⌝ }
+// The value of a load register payload.
+pub fn register_value(p: &[u8]) -> u32
+    ensures { λ r. ⌜ r ≡ registerValue (now (p .entry)) ⌝ }
 {
-    if job.len() <= place {
-        return 0;
-    }
-    number_at(job, place + 5)
+    number_at(p, 2)
 }

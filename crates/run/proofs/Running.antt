@@ -15,7 +15,6 @@ use Rattle.rules.specs.declared.Verdict.{Verdict}
 use Rattle.rules.specs.declared.Verdict.the-variants as verdict
 use Rattle.step.specs.Step.{verdictOf, steppedOf, stateOf}
 use Rattle.step.specs.declared.Stepped.{Stepped}
-use Rattle.rules.specs.After.{controlAfter}
 use Rattle.job.specs.Fields.{fieldAt, fieldsFrom}
 use Rattle.job.specs.declared.Kind.{Kind}
 use Rattle.job.specs.declared.Kind.the-variants as kind
@@ -25,11 +24,23 @@ use Rattle.walk.specs.FieldRecord.{fieldControl, issueOf}
 use Rattle.walk.proofs.RecordKept.{issue-most}
 use Rattle.precheck.specs.Check.{precheckOf}
 use Rattle.precheck.specs.declared.Checked.the-variants as checked
-use Rattle.run.specs.Perform.{performed, stepVerdict}
+use Rattle.run.specs.Perform.{performed, controlOn, stepVerdict}
 use Rattle.run.specs.Run.{Ran, ran, execute, runOf, outcomeAnswer, runAnswer}
 use Rattle.run.specs.declared.Outcome.{Outcome}
 use Rattle.run.specs.declared.Outcome.the-variants.{Finished, Refused}
 use Rattle.run.proofs.Performs.{performed-sizes}
+
+-- ---- the record
+
+-- a field that does not refuse leaves the record that the pre-check goes by
+pub done-control : (job : List ℕ) (c : Control) (place : ℕ) (k : Kind) (s : State) → stepVerdict c k s ≡ verdict.Done → controlOn job c place k s ≡ fieldControl job c place k
+unfolding controlOn stepVerdict fieldControl steppedOf
+done-control job c place kind.Settings s e = refl
+done-control job c place (kind.Issue t w) s e = rw e
+done-control job c place (kind.HandOver file) s e = refl
+done-control job c place (kind.Writes x) s e = refl
+done-control job c place (kind.Prints o) s e = refl
+done-control job c place (kind.Wrong x) s e = refl
 
 -- ---- over a list of fields
 
@@ -39,9 +50,14 @@ execute-none job c s n = refl
 
 module _ (job : List ℕ) (f : Field) (fs : List Field) (c : Control) (s : State) (n : ℕ) where
   pub execute-next : stepVerdict c (f .kind) s ≡ verdict.Done
-      → execute job (f ∷ fs) c s n ≡ execute job fs (fieldControl job c (f .place) (f .kind)) (performed job c (f .place) (f .kind) s) (n + issueOf (f .kind))
+      → execute job (f ∷ fs) c s n ≡ execute job fs (controlOn job c (f .place) (f .kind) s) (performed job c (f .place) (f .kind) s) (n + issueOf (f .kind))
   unfolding execute
   execute-next e = rw e
+
+  -- the same with the record by the field alone
+  pub execute-done : stepVerdict c (f .kind) s ≡ verdict.Done
+      → execute job (f ∷ fs) c s n ≡ execute job fs (fieldControl job c (f .place) (f .kind)) (performed job c (f .place) (f .kind) s) (n + issueOf (f .kind))
+  execute-done e = rw (← done-control job c (f .place) (f .kind) s e) (execute-next e)
 
   pub execute-refused : (r : Refusal) → stepVerdict c (f .kind) s ≡ verdict.Refused r → execute job (f ∷ fs) c s n ≡ ran (Refused StepRefused (f .place)) s
   unfolding execute
@@ -82,7 +98,7 @@ module _ (job : List ℕ) (s₀ : State) (c : Control) (at n : ℕ) (s : State) 
 
   -- f is the field there, of kind k
   module _ (f : Field) (h : at < length job) (e : f ≡ fieldAt job at) (k : Kind) (q : f .kind ≡ k) where
-    pub turn-on : stepVerdict c k s ≡ verdict.Done → {c′ : Control} {s′ : State} {n′ : ℕ} → c′ ≡ fieldControl job c (f .place) k → s′ ≡ performed job c (f .place) k s → n′ ≡ n + issueOf k
+    pub turn-on : stepVerdict c k s ≡ verdict.Done → {c′ : Control} {s′ : State} {n′ : ℕ} → c′ ≡ controlOn job c (f .place) k s → s′ ≡ performed job c (f .place) k s → n′ ≡ n + issueOf k
         → Running job s₀ c′ (f .next) n′ s′
     turn-on v {c′} {s′} {n′} ce se i =
         record {
@@ -103,17 +119,13 @@ module _ (job : List ℕ) (s₀ : State) (c : Control) (at n : ℕ) (s : State) 
     unfolding steppedOf
     told v d = sym (ap (λ (x : Stepped). x .verdict) p) ∙ d
 
-    after : verdictOf c g w s ≡ verdict.Done → r .control ≡ controlAfter c g w
-    unfolding steppedOf
-    after v = rw (p, v)
-
     stays : (x : Refusal) → verdictOf c g w s ≡ verdict.Refused x → s′ ≡ s
     unfolding stateOf
     stays x v = se ∙ rw v
 
     pub step-on : r .verdict ≡ verdict.Done → Running job s₀ (r .control) (f .next) (n + 1) s′
-    unfolding stepVerdict fieldControl performed
-    step-on d = turn-on f h e (kind.Issue g w) q (told verdict.Done d) (after (told verdict.Done d)) se refl
+    unfolding stepVerdict controlOn performed
+    step-on d = turn-on f h e (kind.Issue g w) q (told verdict.Done d) (ap (λ (x : Stepped). x .control) p) se refl
 
     pub step-stop : (x : Refusal) → r .verdict ≡ verdict.Refused x → Left job s₀ (Refused StepRefused (f .place)) s′
     unfolding stepVerdict

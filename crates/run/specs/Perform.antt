@@ -1,5 +1,5 @@
--- Document 01, "The job": what a field does to the lent numbers. Instructions act through the single step; the record that a step returns is the
--- one that `fieldControl` gives, so the record after a field is taken from there for every kind. Definitions only.
+-- Document 01, "The job": what a field does to the lent numbers and to the control record. An instruction acts through the single step, which
+-- gives both; the record after any other field is `fieldControl`'s. Definitions only.
 use mathlib.Core.List.{List}
 use Prim.Native.Nat.{ℕ, _-_, _*_}
 use Rattle.cells.specs.declared.layout.Span.{Span}
@@ -12,37 +12,47 @@ use Rattle.cells.specs.Layout.{rowStart, oneRegister}
 use Rattle.rules.specs.declared.Verdict.{Verdict}
 use Rattle.rules.specs.declared.Verdict.the-variants.{Done}
 use Rattle.cells.specs.State.{State, withDst, withRegisters, srcFile, withSrcFile}
-use Rattle.step.specs.Step.{verdictOf, stateOf}
-use Rattle.job.specs.Values.{rowValue, registerValue}
+use Rattle.step.specs.Step.{verdictOf, steppedOf, stateOf}
+use Rattle.job.specs.Kinds.{rowValue, registerValue}
+use Rattle.job.specs.Fields.{payloadAt}
 use Rattle.job.specs.declared.Write.{Write}
 use Rattle.job.specs.declared.Write.the-variants.{LoadSrc, LoadDst, LoadRegister, ZeroRows}
 use Rattle.job.specs.declared.Kind.{Kind}
 use Rattle.job.specs.declared.Kind.the-variants as kind
-use Rattle.walk.specs.FieldRecord.{loadedRows}
+use Rattle.walk.specs.FieldRecord.{fieldControl, loadedRows}
 
--- the number of a load that goes to place p, its first number going to place lo
-abbrev pub valueFrom : List ℕ → ℕ → ℕ → ℕ → ℕ
-valueFrom job place lo = λ p. rowValue job place (p - lo)
+-- the number of a payload that goes to place i, its first number going to place lo
+abbrev pub valueFrom : List ℕ → ℕ → ℕ → ℕ
+valueFrom p lo = λ i. rowValue p (i - lo)
 
--- the rows of a load, from the job's bytes: its first number goes to column 0 of the first row
-unfoldable pub loaded : Width → List ℕ → ℕ → Span → List ℕ → List ℕ
-loaded w job place rows l = overRowsAt w rows (valueFrom job place (rowStart (rows .first))) l
+-- the rows of a load, from its payload: the first number goes to column 0 of the first row
+unfoldable pub loaded : Width → List ℕ → Span → List ℕ → List ℕ
+loaded w p rows l = overRowsAt w rows (valueFrom p (rowStart (rows .first))) l
 
--- what a load or zeroing writes
-unfoldable pub written : List ℕ → Control → ℕ → Write → State → State
-written job c place (LoadSrc file rows) s = withSrcFile s file (loaded Bits32 job place (loadedRows c file rows) (srcFile s file))
-written job c place (LoadDst w rows) s = withDst s (loaded w job place rows (s .dst))
-written job c place (LoadRegister t r) s = withRegisters s (over (inSpan (oneRegister t r)) (λ i. registerValue job place) (s .registers))
-written job c place (ZeroRows w rows) s = withDst s (overRowsAt w rows (λ p. 0) (s .dst))
+-- what a load or zeroing with payload p writes
+unfoldable pub written : List ℕ → Control → Write → State → State
+written p c (LoadSrc file rows) s = withSrcFile s file (loaded Bits32 p (loadedRows c file rows) (srcFile s file))
+written p c (LoadDst w rows) s = withDst s (loaded w p rows (s .dst))
+written p c (LoadRegister t r) s = withRegisters s (over (inSpan (oneRegister t r)) (λ i. registerValue p) (s .registers))
+written p c (ZeroRows w rows) s = withDst s (overRowsAt w rows (λ i. 0) (s .dst))
 
 -- what a field does to the numbers: an instruction steps, loads and zeroing write, the others change none
 unfoldable pub performed : List ℕ → Control → ℕ → Kind → State → State
 performed job c place kind.Settings s = s
 performed job c place (kind.Issue t w) s = stateOf c t w s
 performed job c place (kind.HandOver file) s = s
-performed job c place (kind.Writes x) s = written job c place x s
+performed job c place (kind.Writes x) s = written (payloadAt job place) c x s
 performed job c place (kind.Prints o) s = s
 performed job c place (kind.Wrong x) s = s
+
+-- the record after a field: after an instruction, the one that the single step gives back
+unfoldable pub controlOn : List ℕ → Control → ℕ → Kind → State → Control
+controlOn job c place kind.Settings s = fieldControl job c place kind.Settings
+controlOn job c place (kind.Issue t w) s = steppedOf c t w s .control
+controlOn job c place (kind.HandOver file) s = fieldControl job c place (kind.HandOver file)
+controlOn job c place (kind.Writes x) s = fieldControl job c place (kind.Writes x)
+controlOn job c place (kind.Prints o) s = fieldControl job c place (kind.Prints o)
+controlOn job c place (kind.Wrong x) s = fieldControl job c place (kind.Wrong x)
 
 -- whether the single step refuses an instruction; no other field refuses
 unfoldable pub stepVerdict : Control → Kind → State → Verdict

@@ -10,7 +10,8 @@ use Rattle.rules.specs.Rules.{lowest}
 use native.Mathlib.Omega.{arith}
 use lib.ListN.{length}
 use Prim.Native.Nat.{_-_}
-use mathlib.Core.Path.{refl, sym, _∙_}
+use Rattle.job.specs.Settings.{settledBy}
+use mathlib.Core.Path.{refl, sym, ap, _∙_}
 use borrow.Author.Needs.{needs}
 use Rattle.precheck.proofs.check_from.Statement.{statement}
 use Rattle.precheck.proofs.check_from.Tie as tie
@@ -34,8 +35,11 @@ field-at-requires c κs = search needs
 enum-told : tie.Need-enum-told Inv-loop μ-loop
 enum-told c = search needs
 
-settle-at-requires : tie.Need-settle-at-requires Inv-loop μ-loop
-settle-at-requires c κs = search needs
+payload-at-requires : tie.Need-payload-at-requires Inv-loop μ-loop
+payload-at-requires c κs = search needs
+
+settle-requires : tie.Need-settle-requires Inv-loop μ-loop
+settle-requires c κs = search needs
 
 enum-known-kind : tie.Need-enum-known-kind Inv-loop μ-loop
 enum-known-kind c = search needs
@@ -126,11 +130,11 @@ enum-told-6 : tie.Need-enum-told-6 Inv-loop μ-loop
 enum-told-6 c = search needs
 
 loop-less : tie.Need-loop-less Inv-loop μ-loop
-loop-less c = omega (arith, next-after _ _ _ (c .before .before .before .before .loop-test .taken) (c .before .before .before .field-at .ensures), (c .before .before .before .before .loop-test .taken))
+loop-less c = omega (arith, next-after _ _ _ (c .before .before .before .before .before .loop-test .taken) (c .before .before .before .before .field-at .ensures), (c .before .before .before .before .before .loop-test .taken))
 
 loop-again : tie.Need-loop-again Inv-loop μ-loop
 unfolding fieldRules fieldControl fieldMarks lowest
-loop-again c = turn-on _ _ _ _ _ _ _ _ _ (c .before .before .before .before .before .loop .inv) _ (c .before .before .before .before .loop-test .taken) (c .before .before .before .field-at .ensures) _ ((c .before .enum-told .given) .1) (refl) ((c .settle-at .ensures)) (refl) (refl) (omega arith)
+loop-again c = turn-on _ _ _ _ _ _ _ _ _ (c .before .before .before .before .before .before .loop .inv) _ (c .before .before .before .before .before .loop-test .taken) (c .before .before .before .before .field-at .ensures) _ ((c .before .before .enum-told .given) .1) (refl) (c .settle .ensures ∙ ap (settledBy _) (c .before .payload-at .ensures)) (refl) (refl) (omega arith)
 
 loop-less-2 : tie.Need-loop-less-2 Inv-loop μ-loop
 loop-less-2 c = omega (arith, next-after _ _ _ (c .before .before .before .before .before .before .before .before .before .before .before .before .loop-test .taken) (c .before .before .before .before .before .before .before .before .before .before .before .field-at .ensures), (c .before .before .before .before .before .before .before .before .before .before .before .before .loop-test .taken))
@@ -183,7 +187,8 @@ check-from-spec =
     loop-holds
     field-at-requires
     enum-told
-    settle-at-requires
+    payload-at-requires
+    settle-requires
     enum-known-kind
     check-issue-requires
     enum-known-verdict

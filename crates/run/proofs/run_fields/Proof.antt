@@ -1,14 +1,16 @@
 -- `run::run_fields` meets its contract. Assumes nothing.
 use Rattle.run.proofs.Running.{Running, running-first, running-end, turn-on, step-on, step-stop}
-use Rattle.run.specs.Perform.{performed, stepVerdict}
+use Rattle.run.proofs.Performs.{written-by}
+use Rattle.run.specs.Perform.{performed, controlOn, stepVerdict}
 use Rattle.job.proofs.Walk.{next-after}
 use Rattle.walk.specs.FieldRecord.{fieldControl}
+use Rattle.job.specs.Settings.{settledBy}
 use Rattle.cells.proofs.Sizes.{sizes}
 use Rattle.cells.specs.State.{state}
 use native.Mathlib.Omega.{arith}
 use lib.ListN.{length}
 use Prim.Native.Nat.{_-_}
-use mathlib.Core.Path.{refl, sym, _∙_}
+use mathlib.Core.Path.{refl, sym, ap, _∙_}
 use borrow.Author.Needs.{needs}
 use Rattle.run.proofs.run_fields.Statement.{statement}
 use Rattle.run.proofs.run_fields.Tie as tie
@@ -31,8 +33,11 @@ field-at-requires c κs = search needs
 enum-told : tie.Need-enum-told Inv-loop μ-loop
 enum-told c = search needs
 
-settle-at-requires : tie.Need-settle-at-requires Inv-loop μ-loop
-settle-at-requires c κs = search needs
+payload-at-requires : tie.Need-payload-at-requires Inv-loop μ-loop
+payload-at-requires c κs = search needs
+
+settle-requires : tie.Need-settle-requires Inv-loop μ-loop
+settle-requires c κs = search needs
 
 enum-known-kind : tie.Need-enum-known-kind Inv-loop μ-loop
 enum-known-kind c = search needs
@@ -73,6 +78,9 @@ hand-over-requires c κs = search needs
 enum-known-kind-3 : tie.Need-enum-known-kind-3 Inv-loop μ-loop
 enum-known-kind-3 c = search needs
 
+payload-at-requires-2 : tie.Need-payload-at-requires-2 Inv-loop μ-loop
+payload-at-requires-2 c κs = search needs
+
 write-requires : tie.Need-write-requires Inv-loop μ-loop
 write-requires c κs = search needs
 
@@ -83,11 +91,11 @@ enum-told-5 : tie.Need-enum-told-5 Inv-loop μ-loop
 enum-told-5 c = search needs
 
 loop-less : tie.Need-loop-less Inv-loop μ-loop
-loop-less c = omega (arith, next-after _ _ _ (c .before .before .before .before .loop-test .taken) (c .before .before .before .field-at .ensures), (c .before .before .before .before .loop-test .taken))
+loop-less c = omega (arith, next-after _ _ _ (c .before .before .before .before .before .loop-test .taken) (c .before .before .before .before .field-at .ensures), (c .before .before .before .before .before .loop-test .taken))
 
 loop-again : tie.Need-loop-again Inv-loop μ-loop
-unfolding stepVerdict fieldControl performed
-loop-again c = turn-on _ _ _ _ _ _ (c .before .before .before .before .before .loop .inv) _ (c .before .before .before .before .loop-test .taken) (c .before .before .before .field-at .ensures) _ ((c .before .enum-told .given) .1) (refl) ((c .settle-at .ensures)) (refl) (omega arith)
+unfolding stepVerdict controlOn fieldControl performed
+loop-again c = turn-on _ _ _ _ _ _ (c .before .before .before .before .before .before .loop .inv) _ (c .before .before .before .before .before .loop-test .taken) (c .before .before .before .before .field-at .ensures) _ ((c .before .before .enum-told .given) .1) (refl) (c .settle .ensures ∙ ap (settledBy _) (c .before .payload-at .ensures)) (refl) (omega arith)
 
 loop-less-2 : tie.Need-loop-less-2 Inv-loop μ-loop
 loop-less-2 c = omega (arith, next-after _ _ _ (c .before .before .before .before .before .before .before .before .before .before .before .before .before .before .before .before .before .before .before .before .loop-test .taken) (c .before .before .before .before .before .before .before .before .before .before .before .before .before .before .before .before .before .before .before .field-at .ensures), (c .before .before .before .before .before .before .before .before .before .before .before .before .before .before .before .before .before .before .before .before .loop-test .taken))
@@ -99,28 +107,28 @@ loop-less-3 : tie.Need-loop-less-3 Inv-loop μ-loop
 loop-less-3 c = omega (arith, next-after _ _ _ (c .before .before .before .before .before .loop-test .taken) (c .before .before .before .before .field-at .ensures), (c .before .before .before .before .before .loop-test .taken))
 
 loop-again-3 : tie.Need-loop-again-3 Inv-loop μ-loop
-unfolding stepVerdict fieldControl performed
+unfolding stepVerdict controlOn fieldControl performed
 loop-again-3 c = turn-on _ _ _ _ _ _ (c .before .before .before .before .before .before .loop .inv) _ (c .before .before .before .before .before .loop-test .taken) (c .before .before .before .before .field-at .ensures) _ ((c .before .before .kind2 .given) .1) (refl) ((c .hand-over .ensures)) (refl) (omega arith)
 
 loop-less-4 : tie.Need-loop-less-4 Inv-loop μ-loop
-loop-less-4 c = omega (arith, next-after _ _ _ (c .before .before .before .before .before .before .before .before .before .before .before .before .before .before .before .before .before .loop-test .taken) (c .before .before .before .before .before .before .before .before .before .before .before .before .before .before .before .before .field-at .ensures), (c .before .before .before .before .before .before .before .before .before .before .before .before .before .before .before .before .before .loop-test .taken))
+loop-less-4 c = omega (arith, next-after _ _ _ (c .before .before .before .before .before .before .before .before .before .before .before .before .before .before .before .before .before .before .loop-test .taken) (c .before .before .before .before .before .before .before .before .before .before .before .before .before .before .before .before .before .field-at .ensures), (c .before .before .before .before .before .before .before .before .before .before .before .before .before .before .before .before .before .before .loop-test .taken))
 
 loop-again-4 : tie.Need-loop-again-4 Inv-loop μ-loop
-unfolding stepVerdict fieldControl performed
-loop-again-4 c = turn-on _ _ _ _ _ _ (c .before .before .before .before .before .before .before .before .before .before .before .before .before .before .before .before .before .before .loop .inv) _ (c .before .before .before .before .before .before .before .before .before .before .before .before .before .before .before .before .before .loop-test .taken) (c .before .before .before .before .before .before .before .before .before .before .before .before .before .before .before .before .field-at .ensures) _ ((c .before .before .before .before .before .before .before .before .before .before .before .before .before .before .kind3 .given) .1) (refl) (refl) ((c .before .before .before .before .before .before .before .before .write .ensures)) (omega arith)
+unfolding stepVerdict controlOn fieldControl performed
+loop-again-4 c = turn-on _ _ _ _ _ _ (c .before .before .before .before .before .before .before .before .before .before .before .before .before .before .before .before .before .before .before .loop .inv) _ (c .before .before .before .before .before .before .before .before .before .before .before .before .before .before .before .before .before .before .loop-test .taken) (c .before .before .before .before .before .before .before .before .before .before .before .before .before .before .before .before .before .field-at .ensures) _ ((c .before .before .before .before .before .before .before .before .before .before .before .before .before .before .before .kind3 .given) .1) (refl) (refl) (written-by _ _ _ (c .before .before .before .before .before .before .before .before .write .ensures) (c .before .before .before .before .before .before .before .before .before .before .before .before .before .payload-at2 .ensures)) (omega arith)
 
 loop-less-5 : tie.Need-loop-less-5 Inv-loop μ-loop
 loop-less-5 c = omega (arith, next-after _ _ _ (c .before .before .before .loop-test .taken) (c .before .before .field-at .ensures), (c .before .before .before .loop-test .taken))
 
 loop-again-5 : tie.Need-loop-again-5 Inv-loop μ-loop
-unfolding stepVerdict fieldControl performed
+unfolding stepVerdict controlOn fieldControl performed
 loop-again-5 c = turn-on _ _ _ _ _ _ (c .before .before .before .before .loop .inv) _ (c .before .before .before .loop-test .taken) (c .before .before .field-at .ensures) _ ((c .enum-told4 .given) .1) (refl) (refl) (refl) (omega arith)
 
 loop-less-6 : tie.Need-loop-less-6 Inv-loop μ-loop
 loop-less-6 c = omega (arith, next-after _ _ _ (c .before .before .before .loop-test .taken) (c .before .before .field-at .ensures), (c .before .before .before .loop-test .taken))
 
 loop-again-6 : tie.Need-loop-again-6 Inv-loop μ-loop
-unfolding stepVerdict fieldControl performed
+unfolding stepVerdict controlOn fieldControl performed
 loop-again-6 c = turn-on _ _ _ _ _ _ (c .before .before .before .before .loop .inv) _ (c .before .before .before .loop-test .taken) (c .before .before .field-at .ensures) _ ((c .enum-told5 .given) .1) (refl) (refl) (refl) (omega arith)
 
 same-length-5 : tie.Need-same-length-5 Inv-loop μ-loop
@@ -148,7 +156,8 @@ run-fields-spec =
     loop-holds
     field-at-requires
     enum-told
-    settle-at-requires
+    payload-at-requires
+    settle-requires
     enum-known-kind
     step-requires
     enum-told-2
@@ -162,6 +171,7 @@ run-fields-spec =
     enum-known-kind-2
     hand-over-requires
     enum-known-kind-3
+    payload-at-requires-2
     write-requires
     enum-told-4
     enum-told-5

@@ -8,7 +8,7 @@ use Rattle.cells.specs.declared.Part.{Part}
 use Rattle.cells.specs.declared.Part.the-variants.{Whole, Low, High}
 use Rattle.cells.specs.Parts.{placeIn}
 use Rattle.cells.proofs.Parts.{Going, going-start, going-length, first-inside, going-inside, going-place, going-on, going-end}
-use Rattle.job.specs.Values.{rowValue}
+use Rattle.job.specs.Kinds.{rowValue}
 use Rattle.run.specs.Perform.{valueFrom}
 use borrow.Author.Needs.{needs}
 use Rattle.run.proofs.writing.load_part.Statement.{statement}
@@ -21,10 +21,10 @@ from-base Low n i b e = (omega arith, omega arith)
 from-base High n i b e = (omega arith, omega arith)
 
 abbrev Inv-loop : tie.InvT-loop
-Inv-loop part base job place lo hi file₀ n end i₀ file i = Going part (valueFrom job place lo) file₀ lo hi i₀ end file i
+Inv-loop part base payload lo hi file₀ n end i₀ file i = Going part (valueFrom payload lo) file₀ lo hi i₀ end file i
 
 abbrev μ-loop : tie.MeasureT-loop
-μ-loop part base job place lo hi file₀ n end i₀ file i = end - i
+μ-loop part base payload lo hi file₀ n end i₀ file i = end - i
 
 cut-in-requires : tie.Need-cut-in-requires Inv-loop μ-loop
 cut-in-requires c κs = search needs
@@ -72,7 +72,7 @@ loop-less c = omega arith
 loop-again : tie.Need-loop-again Inv-loop μ-loop
 loop-again c = let l = c .before .before .before .before .loop in
     let s = c .before .before .before .before .before .before .before .before .before in
-    going-on _ _ _ _ _ _ _ _ _ (l .inv) _ _ (c .before .before .before .loop-test .taken) (c .before .before .«row-value» .ensures ∙ ap (λ (p : ℕ). rowValue (now (s .args .job)) (s .args .place) (p - s .args .lo)) (from-base (s .args .part) (length (now (s .args .file))) (l .i) (s .args .base) (s .pre .1) .0)) (c .«with-part» .ensures)
+    going-on _ _ _ _ _ _ _ _ _ (l .inv) _ _ (c .before .before .before .loop-test .taken) (c .before .before .«row-value» .ensures ∙ ap (λ (p : ℕ). rowValue (now (s .args .payload)) (p - s .args .lo)) (from-base (s .args .part) (length (now (s .args .file))) (l .i) (s .args .base) (s .pre .1) .0)) (c .«with-part» .ensures)
 
 same-length : tie.Need-same-length Inv-loop μ-loop
 same-length c = going-length _ _ _ _ _ _ _ _ _ (c .before .loop .inv)

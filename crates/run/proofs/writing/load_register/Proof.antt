@@ -4,7 +4,7 @@ use mathlib.Core.Path.{_∙_}
 use lib.ListN.{set}
 use Rattle.cells.proofs.Cells.{set-one}
 use Rattle.cells.specs.Layout.{register}
-use Rattle.job.specs.Values.{registerValue}
+use Rattle.job.specs.Kinds.{registerValue}
 use Rattle.run.proofs.Performs.{one-past}
 use borrow.Author.Needs.{needs}
 use Rattle.run.proofs.writing.load_register.Statement.{statement}
@@ -17,7 +17,7 @@ cast-i : tie.Need-cast-i
 cast-i c = search needs
 
 returns : tie.Need-returns
-returns c = let a = (c .before .before .before .before .args) in one-past (λ i. registerValue (now (a .job)) (a .place)) (now (a .registers)) (register (a .thread) (a .r)) (rw (c .before .register-at .ensures) at (c .if1 .taken))
+returns c = let a = (c .before .before .before .before .args) in one-past (λ i. registerValue (now (a .payload))) (now (a .registers)) (register (a .thread) (a .r)) (rw (c .before .register-at .ensures) at (c .if1 .taken))
 
 register-value-requires : tie.Need-register-value-requires
 register-value-requires c κs = search needs
@@ -32,7 +32,7 @@ same-length : tie.Need-same-length
 same-length c = search needs
 
 returns-2 : tie.Need-returns-2
-returns-2 c = let a = (c .before .before .before .before .before .args) in (λ i. set (now (a .registers)) ((c .before .before .register-at .ensures) i) ((c .register-value .ensures) i)) ∙ set-one 0 (registerValue (now (a .job)) (a .place)) (now (a .registers)) (register (a .thread) (a .r)) (rw (c .before .before .register-at .ensures) at (c .before .if1 .left))
+returns-2 c = let a = (c .before .before .before .before .before .args) in (λ i. set (now (a .registers)) ((c .before .before .register-at .ensures) i) ((c .register-value .ensures) i)) ∙ set-one 0 (registerValue (now (a .payload))) (now (a .registers)) (register (a .thread) (a .r)) (rw (c .before .before .register-at .ensures) at (c .before .if1 .left))
 
 pub load-register-spec : {M : Type 1} → statement M
 load-register-spec =
