@@ -1,12 +1,12 @@
 -- Demand 3 and demand 1, and no 7 in the BF16 mode, proved for every list of bytes. Assumes nothing.
 use mathlib.Core.Path.{_≡_, refl, sym, ap, _∙_}
 use mathlib.Core.Bool.{Bool, true, false, _||_, false≢true}
-use mathlib.Core.List.{List}
+use mathlib.Core.List.{List, [], _∷_, map}
 use mathlib.Core.Logic.{_⊎_, inl, inr, _≢_, ⊎-elim}
 use Prim.Native.Nat.{ℕ, zero, suc}
 use native.Mathlib.Nat.{zero-add}
 use native.Mathlib.Omega.{arith}
-use lib.Dec.{eqb}
+use lib.Dec.{eqb, ltb}
 use lib.ListN.{length, getD, replicate}
 use Rattle.cells.specs.declared.Width.{Width}
 use Rattle.cells.specs.declared.Width.the-variants.{Bits32, Bits16}
@@ -21,10 +21,9 @@ use Rattle.control.specs.Record.{start}
 use Rattle.control.proofs.StaysInRange.{start-kept}
 use Rattle.cells.specs.Tests.{oneOf}
 use Rattle.cells.specs.State.{State, sized}
-use Rattle.cells.proofs.Sizes.{sizes}
+use Rattle.cells.proofs.Sizes.{sizes, sized-of, unsized}
 use Rattle.job.specs.Fields.{jobWidth, fieldsFrom}
 use Rattle.job.specs.Shape.{shapeOf}
-use Rattle.job.specs.Values.{beforeWrong}
 use Rattle.job.specs.declared.Shape.{Shape}
 use Rattle.job.specs.declared.Shape.the-variants.{Right, WrongAt}
 use Rattle.job.proofs.Shaped.{sound}
@@ -37,12 +36,17 @@ use Rattle.run.specs.Run.{Ran, ran, runOf}
 use Rattle.run.proofs.Running.{run-passed, run-refused, run-unsized}
 use Rattle.run.specs.declared.Outcome.the-variants.{Finished, Refused}
 use Rattle.lines.specs.Lines.{linesOf}
+use Rattle.lines.specs.Text.{refusedText}
+use Rattle.lines.specs.Printed.{printedBy, printedOf, printedText, textsOf}
 use Rattle.demand.specs.Breaks.{FirstBroken, issueFields}
-use Rattle.demand.specs.Demand.{jobNumbers, runNumbers, Ranks, Unbroken, Demand3, Demand1, JobModes}
+use Rattle.demand.specs.Demand.{jobNumbers, runNumbers, Ranks, Lengths, Unbroken, Demand3, Demand1, JobModes}
+use Rattle.demand.specs.WellShaped.{FirstWrong}
 use Rattle.demand.proofs.Agreement.{Agree, byRow, alone}
 use Rattle.demand.proofs.Widths.{first-width, wide}
 use Rattle.demand.proofs.Modes.{breaks-same, none-breaks-seven}
-use Rattle.demand.proofs.Passed.{counted, Ended, ended}
+use Rattle.demand.proofs.Passed.{counted, all-go, Ended, ended}
+use Rattle.demand.proofs.Shapes.{well-right, right-well, first-wrong, wrong-first}
+use Rattle.demand.proofs.Steps.{sizes-of, lengths-of}
 use Rattle.demand.proofs.Refused.{none-breaks, first-breaks}
 use Rattle.demand.proofs.Rules.{ranks}
 use Rattle.demand.proofs.Values.{values-same}
@@ -97,9 +101,9 @@ module _ (job : List ℕ) where
   finishes : (n : ℕ) → precheckOf job ≡ checked.Passed n → (s : State) → sized s ≡ true → runOf job s .outcome ≡ Finished (issueFields (fieldsFrom job 0))
   finishes n e s p = both-end n e s s p p .finished ∙ ap Finished (zero-add _)
 
-  prints : (n : ℕ) → precheckOf job ≡ checked.Passed n → (s t : State) → sized s ≡ true → sized t ≡ true → linesOf job (runOf job s .state) ≡ linesOf job (runOf job t .state)
-  unfolding linesOf
-  prints n e s t p q = both-end n e s t p q .lines
+  prints : (n : ℕ) → precheckOf job ≡ checked.Passed n → (s t : State) → sized s ≡ true → sized t ≡ true → printedOf job (runOf job s) ≡ printedOf job (runOf job t)
+  unfolding linesOf printedBy
+  prints n e s t p q = rw (finishes n e s p, finishes n e t q, both-end n e s t p q .lines)
 
   -- a job that the pre-check turns down gets one of 1 to 8
   tabled : (r : Refusal) (p : ℕ) → precheckOf job ≡ checked.Refused r p → oneOf (numberOf r) jobNumbers ≡ true
@@ -112,19 +116,40 @@ module _ (job : List ℕ) where
           let y : refusal.Shape ≡ r = cc in
           rw (← y)
 
+  -- and 1 only for a wrong shape
+  placed : (p : ℕ) → precheckOf job ≡ checked.Refused refusal.Shape p → FirstWrong job p
+  placed p e = go (shapeOf job) refl
+    where
+      go : (w : Shape) → shapeOf job ≡ w → FirstWrong job p
+      go Right w =
+          let n = first-breaks job (fieldsFrom job 0) start (unset (jobWidth job)) 0 refusal.Shape p (sym (precheck-right job w) ∙ e) .1 in
+          absurd (false≢true n)
+      go (WrongAt q) w =
+          let x = sym (precheck-wrong job q w) ∙ e in
+          let y : q ≡ p = cc in
+          rw (← y) (wrong-first job q w)
+
+  size : (s : State) → Lengths s → sized s ≡ true
+  size s l = sized-of s (sizes-of s l)
+
   pub demand3 : Demand3 job
   demand3 =
       record {
-        right = λ n e. precheck-passed job n e .0;
+        right = λ n e. right-well job (precheck-passed job n e .0);
         unbroken = λ n e. none-breaks job (fieldsFrom job 0) start (unset (jobWidth job)) 0 n (precheck-passed job n e .1);
-        passes = passes;
-        finishes = finishes;
-        prints = prints;
-        misshapen = precheck-wrong job;
-        found = found;
+        passes = λ w. passes (well-right job w);
+        finishes = λ n e s l. finishes n e s (size s l);
+        goes = λ n e s l.
+            let x = precheck-passed job n e in all-go job (fieldsFrom job 0) start (unset (jobWidth job)) s 0 n (sound job 0) start-kept (x .1) (sizes-of s l);
+        prints = λ n e s t l k. prints n e s t (size s l) (size t k);
+        texts = λ n e s t l k. ap (map printedText) (prints n e s t (size s l) (size t k));
+        misshapen = λ p h. precheck-wrong job p (first-wrong job p h);
+        placed = placed;
+        found = λ w. found (well-right job w);
         named = tabled;
-        refuses = λ r p e s size. run-refused job s size r p e;
-        values = λ other o. values-same job other (beforeWrong (shapeOf job)) o;
+        refuses = λ r p e s l. run-refused job s (size s l) r p e;
+        values = λ w other o. values-same job other (λ f. true) o;
+        values-before = λ p w other o. values-same job other (λ f. ltb (f .place) p) o;
       }
 
   -- ---- demand 1
@@ -156,12 +181,17 @@ module _ (job : List ℕ) where
             let l : b ≡ p = cc in
             (x .0, inr (w ∙ (λ i. checked.Refused (k i) (l i))))
 
+    line : (r : Refusal) (p : ℕ) → runOf job s .outcome ≡ Refused r p → textsOf job (runOf job s) ≡ refusedText (numberOf r) p ∷ []
+    unfolding printedBy printedText
+    line r p o = rw o
+
     pub demand1 : Demand1 job s
     demand1 =
         record {
-          unsized = run-unsized job s;
+          unsized = λ h. run-unsized job s (unsized s (λ z. h (lengths-of s z)));
           kept = λ r p o. refused r p o .0;
           tabled = λ r p o. ⊎-elim (λ q. rw q) (λ e. or-right (eqb (numberOf r) 9) _ (tabled r p e)) (refused r p o .1);
+          line = line;
         }
 
   -- ---- the BF16 mode
@@ -181,7 +211,7 @@ module _ (job : List ℕ) where
   pub job-modes : JobModes job
   job-modes =
       record {
-        width = first-width job;
+        width = λ w. first-width job (well-right job w);
         check = check-modes;
         run = λ q s r p o. ⊎-elim (λ n z. omega (arith, n, z)) (check-modes q r p) (refused s r p o .1);
       }

@@ -8,9 +8,9 @@ mod Agreement
 mod FieldAgrees
 mod Lines
 mod Widths
+pub mod Steps
 mod Passed
 mod Refused
 mod Values
-pub mod Steps
 pub mod Modes
 pub mod Demand

@@ -2,7 +2,8 @@
 use mathlib.Core.Path.{_≡_, refl, ap, ap₂, _∙_}
 use mathlib.Core.Bool.{true, cond}
 use mathlib.Core.List.{List, [], _∷_, _++_}
-use Prim.Native.Nat.{ℕ, suc, _+_}
+use mathlib.Core.Option.{some}
+use Prim.Native.Nat.{ℕ, zero, suc, _+_}
 use native.Mathlib.Omega.{arith}
 use lib.ListN.{getD}
 use Rattle.cells.specs.declared.Width.{Width}
@@ -12,6 +13,7 @@ use Rattle.rules.specs.Rules.{lowest}
 use Rattle.rules.specs.declared.Verdict.{Verdict}
 use Rattle.rules.specs.declared.Verdict.the-variants as verdict
 use Rattle.cells.specs.State.{State}
+use Rattle.cells.proofs.Sizes.{Sizes}
 use Rattle.job.specs.Fields.{payloadAt, jobWidth, EachField}
 use Rattle.job.specs.declared.Kind.{Kind}
 use Rattle.job.specs.declared.Kind.the-variants as kind
@@ -26,12 +28,15 @@ use Rattle.precheck.specs.Marking.{fieldMarks}
 use Rattle.walk.specs.FieldRecord.{issueOf}
 use Rattle.precheck.specs.Check.{checkFrom}
 use Rattle.precheck.proofs.Checking.{check-passed}
-use Rattle.run.specs.Perform.{performed, stepVerdict}
+use Rattle.run.specs.Perform.{performed, controlOn, stepVerdict}
+use Rattle.run.proofs.Performs.{performed-sizes}
 use Rattle.run.specs.Run.{Ran, execute}
-use Rattle.run.proofs.Running.{execute-done}
+use Rattle.run.proofs.Running.{done-control, execute-done}
 use Rattle.run.specs.declared.Outcome.the-variants as outcome
 use Rattle.lines.specs.Lines.{linesFrom}
 use Rattle.demand.specs.Breaks.{isIssue, issueFields}
+use Rattle.demand.specs.Met.{Met, metAt, Goes}
+use Rattle.demand.proofs.Rules.{none-broken}
 use Rattle.demand.proofs.MarksStay.{Stays, stays, stays-on, marks-stay}
 use Rattle.walk.proofs.RecordKept.{control-kept}
 use Rattle.demand.proofs.Agreement.{Agree, swap}
@@ -89,3 +94,44 @@ module _ (job : List ℕ) where
         stay = st;
         agree = i .agree;
       })
+
+  -- ---- no field is refused
+
+  -- a state agrees with itself
+  self : (w : Width) (m : Marks) (s : State) → Sizes s → Agree w m s s
+  self w m s z =
+      record {
+        srca = record { left = z .srca; right = z .srca; same = λ i t. refl };
+        srcb = record { left = z .srcb; right = z .srcb; same = λ i t. refl };
+        dst = record { left = z .dst; right = z .dst; same = λ i t. refl };
+        registers = record { left = z .registers; right = z .registers; same = λ i t. refl };
+      }
+
+  -- a field that breaks no rule
+  goes-on : (f : Field) (c : Control) (m : Marks) (s : State) → lowest (fieldRules c m (f .kind)) ≡ verdict.Done → stepVerdict c (f .kind) s ≡ verdict.Done
+      → Goes (record { field = f; control = c; marks = m; state = s })
+  unfolding stepVerdict
+  goes-on f c m s h v =
+      record {
+        unbroken = none-broken (fieldRules c m (f .kind)) h;
+        done = λ t w e. rw e at v;
+      }
+
+  pub all-go : (fs : List Field) (c : Control) (m : Marks) (s : State) (n q : ℕ) → EachField (Sound job) fs → inRange c ≡ true → checkFrom job fs c m n ≡ Passed q → Sizes s
+      → (k : ℕ) (x : Met) → metAt job fs c m s k ≡ some x → Goes x
+  unfolding metAt
+  all-go [] c m s n q w r h z k x e = absurd (let y : _≡_ {A = ℕ} 0 1 = cc in omega arith)
+  all-go (f ∷ fs) c m s n q w r h z k x e =
+      let y = check-passed job f fs c m n q h in
+      let v = field-done c m r (jobWidth job) s s (self (jobWidth job) m s z) (getD job (f .place) 0) (payloadAt job (f .place)) (f .kind) (w .0 .says) (y .0) in
+      go k (goes-on f c m s (y .0) v)
+      (λ k. rw (← done-control job c (f .place) (f .kind) s v) at
+      (all-go fs (fieldControl job c (f .place) (f .kind)) (fieldMarks c m (f .kind)) (performed job c (f .place) (f .kind) s) (n + issueOf (f .kind)) q (w .1)
+      (control-kept job c f r (w .0)) (y .1) (performed-sizes job c (f .place) (f .kind) s z) k x))
+      e
+    where
+      go : (k : ℕ) → Goes (record { field = f; control = c; marks = m; state = s })
+          → ((k : ℕ) → metAt job fs (controlOn job c (f .place) (f .kind) s) (fieldMarks c m (f .kind)) (performed job c (f .place) (f .kind) s) k ≡ some x → Goes x)
+          → metAt job (f ∷ fs) c m s k ≡ some x → Goes x
+      go zero here later e = let y : record { field = f; control = c; marks = m; state = s } ≡ x = cc in rw (← y) here
+      go (suc k) here later e = later k e

@@ -4,7 +4,10 @@ use mathlib.Core.Path.{_≡_}
 use mathlib.Core.Bool.{true, false}
 use mathlib.Core.List.{List, [], _∷_}
 use mathlib.Core.Logic.{_⊎_, _≢_}
+use mathlib.Core.Option.{some}
 use Prim.Native.Nat.{ℕ, _<_}
+use lib.Dec.{ltb}
+use lib.ListN.{length}
 use Rattle.cells.specs.declared.Width.the-variants.{Bits16}
 use Rattle.word.specs.Refusal.{numberOf, rankOf}
 use Rattle.word.specs.Word.{wordOperands}
@@ -15,22 +18,24 @@ use Rattle.word.specs.declared.Refusal.the-variants.{Shape, StateLength, Unmode
 use Rattle.control.specs.declared.Control.{Control}
 use Rattle.control.specs.declared.Settings.{Settings}
 use Rattle.control.specs.Record.{start, widthOf}
-use Rattle.rules.specs.Rules.{rules, judgement}
+use Rattle.control.specs.Range.{inRange}
+use Rattle.rules.specs.Rules.{rules}
 use Rattle.rules.specs.declared.Verdict.the-variants as verdict
-use Rattle.cells.specs.State.{State, sized}
+use Rattle.cells.specs.State.{State}
 use Rattle.cells.specs.Tests.{oneOf}
 use Rattle.step.specs.Step.{verdictOf, steppedOf, stateOf}
 use Rattle.job.specs.Fields.{payloadAt, jobWidth, fieldsFrom}
 use Rattle.job.specs.Settings.{settled}
-use Rattle.job.specs.Shape.{shapeOf}
-use Rattle.job.specs.Values.{beforeWrong, OtherValues}
-use Rattle.job.specs.declared.Shape.the-variants.{Right, WrongAt}
+use Rattle.job.specs.Values.{OtherValues}
 use Rattle.precheck.specs.Marks.{unset}
 use Rattle.precheck.specs.Check.{precheckOf}
 use Rattle.precheck.specs.declared.Checked.the-variants as checked
 use Rattle.run.specs.Run.{ran, runOf}
-use Rattle.lines.specs.Lines.{linesOf}
+use Rattle.lines.specs.Text.{refusedText}
+use Rattle.lines.specs.Printed.{printedOf, textsOf}
 use Rattle.run.specs.declared.Outcome.the-variants.{Finished, Refused}
+use Rattle.demand.specs.WellShaped.{WellShaped, FirstWrong}
+use Rattle.demand.specs.Met.{Met, metAt, Goes}
 use Rattle.demand.specs.Breaks.{brokenRule, breaks, FirstBroken, issueFields}
 
 -- ---- the numbers of the table
@@ -52,6 +57,14 @@ stepNumbers = 9 ∷ 1 ∷ 2 ∷ 3 ∷ 4 ∷ 5 ∷ 6 ∷ 7 ∷ []
 pub record Ranks (r : Refusal) : Type 0 where
   pub rank : oneOf (numberOf r) fieldNumbers ≡ true → rankOf r ≡ numberOf r
 
+-- ---- the lent state has the right sizes
+
+pub record Lengths (s : State) : Type 0 where
+  pub srca : length (s .srca) ≡ 2048
+  pub srcb : length (s .srcb) ≡ 2048
+  pub dst : length (s .dst) ≡ 8192
+  pub registers : length (s .registers) ≡ 192
+
 -- ---- demand 3
 
 -- no field of the job breaks a rule; at the start each row that its Dst has is unset
@@ -60,43 +73,60 @@ Unbroken job = (k : ℕ) (r : Refusal) → breaks job start (unset (jobWidth job
 
 pub record Demand3 (job : List ℕ) : Type 0 where
   -- a job passes exactly when its shape is right and no field breaks a rule
-  pub right : (n : ℕ) → precheckOf job ≡ checked.Passed n → shapeOf job ≡ Right
+  pub right : (n : ℕ) → precheckOf job ≡ checked.Passed n → WellShaped job
   pub unbroken : (n : ℕ) → precheckOf job ≡ checked.Passed n → Unbroken job
-  pub passes : shapeOf job ≡ Right → Unbroken job → precheckOf job ≡ checked.Passed (issueFields (fieldsFrom job 0))
+  pub passes : WellShaped job → Unbroken job → precheckOf job ≡ checked.Passed (issueFields (fieldsFrom job 0))
   -- a job that passes, over any state of the right sizes, finishes with its number of issue fields: it is never refused
-  pub finishes : (n : ℕ) → precheckOf job ≡ checked.Passed n → (s : State) → sized s ≡ true
+  pub finishes : (n : ℕ) → precheckOf job ≡ checked.Passed n → (s : State) → Lengths s
       → runOf job s .outcome ≡ Finished (issueFields (fieldsFrom job 0))
-  -- and over any two states of the right sizes it prints the same lines
-  pub prints : (n : ℕ) → precheckOf job ≡ checked.Passed n → (s t : State) → sized s ≡ true → sized t ≡ true
-      → linesOf job (runOf job s .state) ≡ linesOf job (runOf job t .state)
-  -- a job turned down is named by its first wrong place with number 1, or by its first field that breaks a rule with its lowest number
-  pub misshapen : (p : ℕ) → shapeOf job ≡ WrongAt p → precheckOf job ≡ checked.Refused Shape p
-  pub found : shapeOf job ≡ Right → (r : Refusal) (p : ℕ) → precheckOf job ≡ checked.Refused r p
+  -- and no field and no instruction is refused, from the first to the last
+  pub goes : (n : ℕ) → precheckOf job ≡ checked.Passed n → (s : State) → Lengths s
+      → (k : ℕ) (x : Met) → metAt job (fieldsFrom job 0) start (unset (jobWidth job)) s k ≡ some x → Goes x
+  -- over any two states of the right sizes it prints the same, in numbers and as texts
+  pub prints : (n : ℕ) → precheckOf job ≡ checked.Passed n → (s t : State) → Lengths s → Lengths t
+      → printedOf job (runOf job s) ≡ printedOf job (runOf job t)
+  pub texts : (n : ℕ) → precheckOf job ≡ checked.Passed n → (s t : State) → Lengths s → Lengths t
+      → textsOf job (runOf job s) ≡ textsOf job (runOf job t)
+  -- a job turned down is named by its first wrong place with number 1, and only then with 1; or by its first field that breaks a rule with its lowest number
+  pub misshapen : (p : ℕ) → FirstWrong job p → precheckOf job ≡ checked.Refused Shape p
+  pub placed : (p : ℕ) → precheckOf job ≡ checked.Refused Shape p → FirstWrong job p
+  pub found : WellShaped job → (r : Refusal) (p : ℕ) → precheckOf job ≡ checked.Refused r p
       → FirstBroken job start (unset (jobWidth job)) (fieldsFrom job 0) r p
   -- with one of the numbers 1 to 8
   pub named : (r : Refusal) (p : ℕ) → precheckOf job ≡ checked.Refused r p → oneOf (numberOf r) jobNumbers ≡ true
   -- and a run over any state of the right sizes refuses it with the same number and place, and leaves the state
-  pub refuses : (r : Refusal) (p : ℕ) → precheckOf job ≡ checked.Refused r p → (s : State) → sized s ≡ true → runOf job s ≡ ran (Refused r p) s
-  -- other permitted values in the load fields (where the shape is wrong, in those before its first wrong place) leave the answer as it is
-  pub values : (other : List ℕ) → OtherValues (beforeWrong (shapeOf job)) job other → precheckOf other ≡ precheckOf job
+  pub refuses : (r : Refusal) (p : ℕ) → precheckOf job ≡ checked.Refused r p → (s : State) → Lengths s → runOf job s ≡ ran (Refused r p) s
+  -- other permitted values in the load fields leave the answer as it is; where the shape is wrong, in those before its first wrong place
+  pub values : WellShaped job → (other : List ℕ) → OtherValues (λ f. true) job other → precheckOf other ≡ precheckOf job
+  pub values-before : (p : ℕ) → FirstWrong job p → (other : List ℕ) → OtherValues (λ f. ltb (f .place) p) job other → precheckOf other ≡ precheckOf job
 
--- ---- demand 1: a refusal is a number of the table, and leaves every lent number as it stood
+-- ---- demand 1: a refusal is a number of the table, leaves every lent number as it stood, and prints no row
 
 -- the job run, over any state: 9 at place 0 first of all, and never 10
 pub record Demand1 (job : List ℕ) (s : State) : Type 0 where
-  pub unsized : sized s ≡ false → runOf job s ≡ ran (Refused StateLength 0) s
+  pub unsized : (Lengths s → ⊥) → runOf job s ≡ ran (Refused StateLength 0) s
   pub kept : (r : Refusal) (p : ℕ) → runOf job s .outcome ≡ Refused r p → runOf job s .state ≡ s
   pub tabled : (r : Refusal) (p : ℕ) → runOf job s .outcome ≡ Refused r p → oneOf (numberOf r) runNumbers ≡ true
+  -- all that a refused run prints is the refusal's line
+  pub line : (r : Refusal) (p : ℕ) → runOf job s .outcome ≡ Refused r p → textsOf job (runOf job s) ≡ refusedText (numberOf r) p ∷ []
 
 -- the single step, over any record, thread, word and state: 1 to 7 or 9, and the record as it came
 pub record StepDemand1 (c : Control) (t w : ℕ) (s : State) : Type 0 where
   pub kept : (r : Refusal) → verdictOf c t w s ≡ verdict.Refused r → stateOf c t w s ≡ s
   pub record-kept : (r : Refusal) → verdictOf c t w s ≡ verdict.Refused r → steppedOf c t w s .control ≡ c
   pub tabled : (r : Refusal) → verdictOf c t w s ≡ verdict.Refused r → oneOf (numberOf r) stepNumbers ≡ true
-  -- among the rules 2 to 7 the first in rank counts, which has the lowest number, and a step is done where none is broken
-  pub broken : (r : Refusal) → judgement c t w ≡ verdict.Refused r → brokenRule r (rules c t w) ≡ true
-  pub lowest : (r : Refusal) → judgement c t w ≡ verdict.Refused r → (q : Refusal) → rankOf q < rankOf r → brokenRule q (rules c t w) ≡ false
-  pub unbroken : judgement c t w ≡ verdict.Done → (q : Refusal) → brokenRule q (rules c t w) ≡ false
+  -- 9 exactly when a length is wrong
+  pub nine : (Lengths s → ⊥) → verdictOf c t w s ≡ verdict.Refused StateLength
+  pub not-nine : Lengths s → verdictOf c t w s ≢ verdict.Refused StateLength
+  -- else 1 exactly when the record or the thread is out of range
+  pub one : Lengths s → ((inRange c ≡ true) × (t < 3) → ⊥) → verdictOf c t w s ≡ verdict.Refused Shape
+  pub not-one : inRange c ≡ true → t < 3 → verdictOf c t w s ≢ verdict.Refused Shape
+  -- else the first in rank of the rules 2 to 7 that are broken, which has the lowest number; and it is done exactly when none is broken
+  pub broken : Lengths s → inRange c ≡ true → t < 3 → (r : Refusal) → verdictOf c t w s ≡ verdict.Refused r → brokenRule r (rules c t w) ≡ true
+  pub lowest : Lengths s → inRange c ≡ true → t < 3 → (r : Refusal) → verdictOf c t w s ≡ verdict.Refused r
+      → (q : Refusal) → rankOf q < rankOf r → brokenRule q (rules c t w) ≡ false
+  pub unbroken : verdictOf c t w s ≡ verdict.Done → (q : Refusal) → brokenRule q (rules c t w) ≡ false
+  pub done : Lengths s → inRange c ≡ true → t < 3 → ((q : Refusal) → brokenRule q (rules c t w) ≡ false) → verdictOf c t w s ≡ verdict.Done
 
 -- ---- the two Dst modes, spelled out apart from the definitions that the rules and the widths go by
 
@@ -137,7 +167,7 @@ pub record WordModes (c : Control) (t w : ℕ) : Type 0 where
 
 pub record JobModes (job : List ℕ) : Type 0 where
   -- in a job of right shape, fields go by the width of the record that its settings make
-  pub width : shapeOf job ≡ Right → jobWidth job ≡ widthOf (settled start (payloadAt job 0) .settings)
+  pub width : WellShaped job → jobWidth job ≡ widthOf (settled start (payloadAt job 0) .settings)
   -- neither the pre-check nor a run over any state refuses a job in the BF16 mode with 7
   pub check : jobWidth job ≡ Bits16 → (r : Refusal) (p : ℕ) → precheckOf job ≡ checked.Refused r p → numberOf r ≢ 7
   pub run : jobWidth job ≡ Bits16 → (s : State) (r : Refusal) (p : ℕ) → runOf job s .outcome ≡ Refused r p → numberOf r ≢ 7
