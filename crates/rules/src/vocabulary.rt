@@ -118,7 +118,8 @@ pub(crate) fn moved(mut c: Control, thread: u8, clear: Clear, slot: u32, last: b
     if i < 3 {
         let x = c.threads[i];
         let s = control::slot_used(x, slot);
-        c.threads[i] = control::apply_slot(x, s);
+        let after = control::apply_slot(x, s);
+        c.threads[i] = after;
         c.last = last_row(last, x, c.last);
         return c;
     }
