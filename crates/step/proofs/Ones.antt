@@ -2,10 +2,10 @@
 use mathlib.Core.Path.{_≡_, refl, ap, _∙_}
 use Prim.Native.Nat.{ℕ, _+_, _-_, _*_, _/_, _%_, _≤_, _<_}
 use native.Mathlib.Omega.{arith}
-use lib.Ieee.{binary32, isNan, add, ofBits, mul, toBits}
+use lib.Ieee.{isNan, add, ofBits, mul, toBits}
 use lib.ListN.{replicate, length-replicate, getD-replicate}
 use Rattle.cells.specs.Layout.{cell, span}
-use Rattle.cells.specs.Cells.{over, overRows}
+use Rattle.cells.specs.Cells.{overRows}
 use Rattle.cells.specs.Places.{getAt, overAt}
 use Rattle.cells.specs.declared.Width.the-variants.{Bits32}
 use Rattle.cells.specs.declared.layout.File.the-variants.{A, B}

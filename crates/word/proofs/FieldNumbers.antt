@@ -1,7 +1,6 @@
--- The operands of a word are the fields of its row, proved once over the table. Assumes nothing.
-use mathlib.Core.Path.{_≡_, refl, ap, _∙_}
-use mathlib.Core.Bool.{Bool, true, false, cond}
-use mathlib.Core.List.{List, [], _∷_}
+-- What the word reader answers is, in numbers, what the word's row says, proved once over the table. Assumes nothing.
+use mathlib.Core.Path.{_≡_, refl}
+use mathlib.Core.List.{[], _∷_}
 use mathlib.Core.Option.{Option, none, some}
 use Prim.Native.Nat.{ℕ, _+_, _*_, _/_, _%_, _^_}
 use native.Mathlib.Omega.{arith}
@@ -9,13 +8,14 @@ use lib.Dec.{eqb}
 use borrow.Author.Tests.{eqb-true, eqb-false}
 use Rattle.cells.proofs.Cells.{split}
 use Rattle.word.specs.Bits.{bits, bit}
-use Rattle.word.specs.Table.{Row, table}
+use Rattle.word.specs.Table.{Row, table, lookup}
 use Rattle.word.specs.Operands.{clearOf, whichOf, operandsOf}
-use Rattle.word.specs.Word.{opcodeOf, rowOf, operandsIn, unknownOpcode, unnamedBit, wordOperands, readAs, readWord}
-use Rattle.word.specs.Fields.{WordAnswer, fields, refusedBy, digit, clearNumber, whichNumber, operandNumbers, readAnswer, rowFields, fieldsIn, wordAnswer}
+use Rattle.word.specs.Word.{opcodeOf, rowOf, unknownIn, strayIn, operandsIn, unknownOpcode, unnamedBit, wordOperands, readAs, readWord}
+use Rattle.word.specs.Fields.{fields, classOpcode, classOf, digit, clearNumber, whichNumber, operandNumbers, readAnswer, rowFields, answerIn, wordAnswer}
 use Rattle.word.specs.declared.Class.{Class}
 use Rattle.word.specs.declared.Class.the-variants as class
-use Rattle.word.proofs.Rule.{Every, found-of}
+use Rattle.word.proofs.Every.{Every, _and_}
+use Rattle.word.proofs.Rule.{found-of}
 
 -- ---- fields of bits
 
@@ -39,10 +39,6 @@ which-is w = omega (arith, two (w / 2 ^ 0) (w / 2 ^ 1) (omega arith), two (w / 2
 
 abbrev Right : Row → Type 0
 Right r = (w : ℕ) → operandNumbers (operandsOf (r .class) w) ≡ rowFields r w
-
-infixr 10 _and_
-_and_ : {X Y : Type 0} → X → Y → X × Y
-x and y = (x, y)
 
 right : Every Right table
 unfolding table
@@ -68,17 +64,49 @@ right =
     scalar : (w : ℕ) → (digit (bit w 23) ∷ bits w 20 18 ∷ bits w 17 12 ∷ bits w 11 6 ∷ bits w 5 0 ∷ []) ≡ (bits w 23 23 ∷ bits w 20 18 ∷ bits w 17 12 ∷ bits w 11 6 ∷ bits w 5 0 ∷ [])
     scalar w i = digit-is (w / 2 ^ 23) i ∷ bits w 20 18 ∷ bits w 17 12 ∷ bits w 11 6 ∷ bits w 5 0 ∷ []
 
+-- ---- a class by its opcode
+
+abbrev classIn : Option Row → Class → Type 0
+classIn none k = ⊥
+classIn (some r) k = r .class ≡ k
+
+-- the opcode that stands for a class is one of its own in the table
+pub class-opcode : (k : Class) → classIn (lookup table (classOpcode k)) k
+unfolding table
+class-opcode class.Multiply8 = refl
+class-opcode class.Multiply4 = refl
+class-opcode class.Legacy = refl
+class-opcode class.SetCounters = refl
+class-opcode class.AddCounters = refl
+class-opcode class.ZeroSrc = refl
+class-opcode class.ShiftA = refl
+class-opcode class.ShiftB = refl
+class-opcode class.NoEffect = refl
+class-opcode class.Bitwise = refl
+class-opcode class.Shift = refl
+class-opcode class.Compare = refl
+
+class-is : (k : Class) (w : ℕ) → classOf (operandsOf k w) ≡ k
+class-is class.Multiply8 w = refl
+class-is class.Multiply4 w = refl
+class-is class.Legacy w = refl
+class-is class.SetCounters w = refl
+class-is class.AddCounters w = refl
+class-is class.ZeroSrc w = refl
+class-is class.ShiftA w = refl
+class-is class.ShiftB w = refl
+class-is class.NoEffect w = refl
+class-is class.Bitwise w = refl
+class-is class.Shift w = refl
+class-is class.Compare w = refl
+
 -- ---- what the reader answers
 
 pub read-answer : (w : ℕ) → readAnswer (readWord w) ≡ wordAnswer w
 unfolding readWord unknownOpcode unnamedBit wordOperands wordAnswer
-read-answer w = go (unknownOpcode w) (unnamedBit w)
+read-answer w = by-row (rowOf w) refl
   where
-    fields-in : (o : Option Row) → rowOf w ≡ o → operandNumbers (operandsIn o w) ≡ fieldsIn o w
-    fields-in none e = refl
-    fields-in (some r) e = found-of Right table (opcodeOf w) r right e w
-
-    go : (u n : Bool) → readAnswer (readAs u n (operandsIn (rowOf w) w)) ≡ cond u (refusedBy 2) (cond n (refusedBy 3) (fields (fieldsIn (rowOf w) w)))
-    go true n = refl
-    go false true = refl
-    go false false = ap fields (fields-in (rowOf w) refl)
+    by-row : (o : Option Row) → rowOf w ≡ o → readAnswer (readAs (unknownIn o) (strayIn o w) (operandsIn o w)) ≡ answerIn o w
+    by-row none e = refl
+    by-row (some r) e =
+        split (strayIn (some r) w) (λ t. rw t) (λ t. rw t (λ i. fields (classOpcode (class-is (r .class) w i)) (found-of Right table (opcodeOf w) r right e w i)))

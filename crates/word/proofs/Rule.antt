@@ -18,6 +18,7 @@ use Rattle.word.specs.Bits.{bit, inRanges, someBelow}
 use Rattle.word.specs.Table.{Row, table, lookup, noRow}
 use Rattle.word.specs.Entries.{maskOf, masked}
 use Rattle.word.specs.Word.{opcodeOf, rowOf, strayAt, strayIn}
+use Rattle.word.proofs.Every.{Every}
 use Rattle.word.proofs.Masks.{mask-bits, some-same}
 
 -- a turn of the search
@@ -50,10 +51,6 @@ unfolding table between
 rule = refl
 
 -- ---- what holds of each row holds of the one that is found
-
-abbrev pub Every : (Row → Type 0) → List Row → Type 0
-Every P [] = Unit {0}
-Every P (r ∷ rs) = P r × Every P rs
 
 tested : (f : Row → Bool) (rs : List Row) → every f rs ≡ true → Every (λ r. f r ≡ true) rs
 tested f [] h = tt
