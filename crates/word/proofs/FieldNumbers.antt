@@ -11,9 +11,10 @@ use Rattle.word.specs.Bits.{bits, bit}
 use Rattle.word.specs.Table.{Row, table, lookup}
 use Rattle.word.specs.Operands.{clearOf, whichOf, operandsOf}
 use Rattle.word.specs.Word.{opcodeOf, rowOf, unknownIn, strayIn, operandsIn, unknownOpcode, unnamedBit, wordOperands, readAs, readWord}
-use Rattle.word.specs.Fields.{fields, classOpcode, classOf, digit, clearNumber, whichNumber, operandNumbers, readAnswer, rowFields, answerIn, wordAnswer}
+use Rattle.word.specs.Fields.{fields, classOpcode, digit, clearNumber, whichNumber, readAnswer, rowFields, answerIn, wordAnswer}
 use Rattle.word.specs.declared.Class.{Class}
 use Rattle.word.specs.declared.Class.the-variants as class
+use Rattle.word.specs.declared.Read.the-variants as read
 use Rattle.word.proofs.Every.{Every, _and_}
 use Rattle.word.proofs.Rule.{found-of}
 
@@ -35,34 +36,34 @@ clear-is w = two (w / 2 ^ 22) (w / 2 ^ 23) (omega arith)
 which-is : (w : ℕ) → whichNumber (whichOf w) ≡ bits w 3 0
 which-is w = omega (arith, two (w / 2 ^ 0) (w / 2 ^ 1) (omega arith), two (w / 2 ^ 2) (w / 2 ^ 3) (omega arith))
 
--- ---- a row's class reads the fields that the row names
+-- ---- the operands by a row's class are the fields that the row names
 
 abbrev Right : Row → Type 0
-Right r = (w : ℕ) → operandNumbers (operandsOf (r .class) w) ≡ rowFields r w
+Right r = (w : ℕ) → readAnswer (read.Operands (operandsOf (r .class) w)) ≡ fields (classOpcode (r .class)) (rowFields r w)
 
 right : Every Right table
 unfolding table
 right =
     multiply and multiply
-    and (λ w i. clear-is w i ∷ bits w 21 19 ∷ bits w 16 15 ∷ bits w 13 0 ∷ [])
+    and (λ w i. fields 0x34 (clear-is w i ∷ bits w 21 19 ∷ bits w 16 15 ∷ bits w 13 0 ∷ []))
     and legacy and legacy and legacy and legacy and legacy and legacy
-    and (λ w i. clear-is w i ∷ bits w 21 18 ∷ bits w 17 14 ∷ bits w 13 10 ∷ bits w 9 6 ∷ which-is w i ∷ [])
+    and (λ w i. fields 0x37 (clear-is w i ∷ bits w 21 18 ∷ bits w 17 14 ∷ bits w 13 10 ∷ bits w 9 6 ∷ which-is w i ∷ []))
     and (λ w. refl)
-    and (λ w i. bits w 23 4 ∷ digit-is (w / 2 ^ 3) i ∷ digit-is (w / 2 ^ 2) i ∷ digit-is (w / 2 ^ 1) i ∷ digit-is (w / 2 ^ 0) i ∷ [])
+    and (λ w i. fields 0x11 (bits w 23 4 ∷ digit-is (w / 2 ^ 3) i ∷ digit-is (w / 2 ^ 2) i ∷ digit-is (w / 2 ^ 1) i ∷ digit-is (w / 2 ^ 0) i ∷ []))
     and (λ w. refl)
-    and (λ w i. bits w 15 14 ∷ digit-is (w / 2 ^ 10) i ∷ bits w 9 0 ∷ [])
+    and (λ w i. fields 0x18 (bits w 15 14 ∷ digit-is (w / 2 ^ 10) i ∷ bits w 9 0 ∷ []))
     and (λ w. refl) and (λ w. refl) and (λ w. refl)
-    and scalar and scalar and scalar
+    and scalar 0x5B and scalar 0x5C and scalar 0x5D
     and tt
   where
-    multiply : (w : ℕ) → (clearNumber (clearOf w) ∷ bits w 21 19 ∷ bits w 15 14 ∷ bits w 13 0 ∷ []) ≡ (bits w 23 22 ∷ bits w 21 19 ∷ bits w 15 14 ∷ bits w 13 0 ∷ [])
-    multiply w i = clear-is w i ∷ bits w 21 19 ∷ bits w 15 14 ∷ bits w 13 0 ∷ []
+    multiply : (w : ℕ) → fields 0x26 (clearNumber (clearOf w) ∷ bits w 21 19 ∷ bits w 15 14 ∷ bits w 13 0 ∷ []) ≡ fields 0x26 (bits w 23 22 ∷ bits w 21 19 ∷ bits w 15 14 ∷ bits w 13 0 ∷ [])
+    multiply w i = fields 0x26 (clear-is w i ∷ bits w 21 19 ∷ bits w 15 14 ∷ bits w 13 0 ∷ [])
 
-    legacy : (w : ℕ) → (clearNumber (clearOf w) ∷ bits w 15 14 ∷ []) ≡ (bits w 23 22 ∷ bits w 15 14 ∷ [])
-    legacy w i = clear-is w i ∷ bits w 15 14 ∷ []
+    legacy : (w : ℕ) → fields 0x22 (clearNumber (clearOf w) ∷ bits w 15 14 ∷ []) ≡ fields 0x22 (bits w 23 22 ∷ bits w 15 14 ∷ [])
+    legacy w i = fields 0x22 (clear-is w i ∷ bits w 15 14 ∷ [])
 
-    scalar : (w : ℕ) → (digit (bit w 23) ∷ bits w 20 18 ∷ bits w 17 12 ∷ bits w 11 6 ∷ bits w 5 0 ∷ []) ≡ (bits w 23 23 ∷ bits w 20 18 ∷ bits w 17 12 ∷ bits w 11 6 ∷ bits w 5 0 ∷ [])
-    scalar w i = digit-is (w / 2 ^ 23) i ∷ bits w 20 18 ∷ bits w 17 12 ∷ bits w 11 6 ∷ bits w 5 0 ∷ []
+    scalar : (opcode w : ℕ) → fields opcode (digit (bit w 23) ∷ bits w 20 18 ∷ bits w 17 12 ∷ bits w 11 6 ∷ bits w 5 0 ∷ []) ≡ fields opcode (bits w 23 23 ∷ bits w 20 18 ∷ bits w 17 12 ∷ bits w 11 6 ∷ bits w 5 0 ∷ [])
+    scalar opcode w i = fields opcode (digit-is (w / 2 ^ 23) i ∷ bits w 20 18 ∷ bits w 17 12 ∷ bits w 11 6 ∷ bits w 5 0 ∷ [])
 
 -- ---- a class by its opcode
 
@@ -86,20 +87,6 @@ class-opcode class.Bitwise = refl
 class-opcode class.Shift = refl
 class-opcode class.Compare = refl
 
-class-is : (k : Class) (w : ℕ) → classOf (operandsOf k w) ≡ k
-class-is class.Multiply8 w = refl
-class-is class.Multiply4 w = refl
-class-is class.Legacy w = refl
-class-is class.SetCounters w = refl
-class-is class.AddCounters w = refl
-class-is class.ZeroSrc w = refl
-class-is class.ShiftA w = refl
-class-is class.ShiftB w = refl
-class-is class.NoEffect w = refl
-class-is class.Bitwise w = refl
-class-is class.Shift w = refl
-class-is class.Compare w = refl
-
 -- ---- what the reader answers
 
 pub read-answer : (w : ℕ) → readAnswer (readWord w) ≡ wordAnswer w
@@ -109,4 +96,4 @@ read-answer w = by-row (rowOf w) refl
     by-row : (o : Option Row) → rowOf w ≡ o → readAnswer (readAs (unknownIn o) (strayIn o w) (operandsIn o w)) ≡ answerIn o w
     by-row none e = refl
     by-row (some r) e =
-        split (strayIn (some r) w) (λ t. rw t) (λ t. rw t (λ i. fields (classOpcode (class-is (r .class) w i)) (found-of Right table (opcodeOf w) r right e w i)))
+        split (strayIn (some r) w) (λ t. rw t) (λ t. rw t (found-of Right table (opcodeOf w) r right e w))
