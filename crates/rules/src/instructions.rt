@@ -16,11 +16,12 @@ use word::Refusal;
 ghost use mathlib.Core.Path.{_≡_};
 ghost use Rattle.rules.specs.After.{recordAfter};
 ghost use Rattle.rules.specs.Access.{readsOf, setsOf, unsetsOf};
-ghost use Rattle.rules.specs.Rules.{operandRules, lowest};
+ghost use Rattle.rules.specs.Rules.{operandRules, lowest, verdictAnswer, lowestAnswer};
 
 // Which of the rules 4 to 7 is broken first.
 pub fn judge_operands(c: Control, thread: u8, f: Operands) -> Verdict
-    ensures { λ r. ⌜ r ≡ lowest (operandRules c thread f) ⌝ }
+    ensures verdict { λ r. ⌜ r ≡ lowest (operandRules c thread f) ⌝ }
+    ensures number { λ r. ⌜ verdictAnswer r ≡ lowestAnswer (operandRules c thread f) ⌝ }
 {
     match f {
         Operands::Multiply(m) => multiply::judge_multiply(c, thread, m),

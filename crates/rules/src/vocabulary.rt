@@ -12,12 +12,13 @@ use word::Clear;
 use word::Refusal;
 ghost use mathlib.Core.Path.{_≡_};
 ghost use mathlib.Core.Bool.{cond};
+ghost use mathlib.Core.List.{[], _∷_};
 ghost use Rattle.control.specs.Change.{clearBanks};
 ghost use Rattle.rules.specs.Vocabulary.{Slot, SlotAndLast, noReads, noSets};
 ghost use Rattle.rules.specs.Multiply.{countedA};
 ghost use Rattle.rules.specs.After.{moved};
 ghost use Rattle.rules.specs.Access.{givenBack, clearUnsets, noUnsets};
-ghost use Rattle.rules.specs.Rules.{bothOwned, refusedIf};
+ghost use Rattle.rules.specs.Rules.{bothOwned, _when_, refusedIf, verdictAnswer, lowestAnswer};
 
 pub(crate) fn no_reads() -> Reads
     ensures { λ r. ⌜ r ≡ noReads ⌝ }
@@ -54,7 +55,8 @@ pub(crate) fn no_unsets() -> Unsets
 
 // One rule alone.
 pub fn refused_if(bad: bool, refusal: Refusal) -> Verdict
-    ensures { λ r. ⌜ r ≡ refusedIf bad refusal ⌝ }
+    ensures verdict { λ r. ⌜ r ≡ refusedIf bad refusal ⌝ }
+    ensures number { λ r. ⌜ verdictAnswer r ≡ lowestAnswer ((refusal when bad) ∷ []) ⌝ }
 {
     if bad {
         return Verdict::Refused(refusal);
@@ -116,7 +118,8 @@ pub(crate) fn moved(mut c: Control, thread: u8, clear: Clear, slot: u32, last: b
     if i < 3 {
         let x = c.threads[i];
         let s = control::slot_used(x, slot);
-        c.threads[i] = control::apply_slot(x, s);
+        let after = control::apply_slot(x, s);
+        c.threads[i] = after;
         c.last = last_row(last, x, c.last);
         return c;
     }

@@ -1,5 +1,5 @@
 -- The table of twenty: the search in it, and its rule, proved once over the table. Assumes nothing.
-use mathlib.Core.Path.{_≡_, refl, sym, ap, _∙_}
+use mathlib.Core.Path.{_≡_, refl, sym, ap, _∙_, subst}
 use mathlib.Core.Bool.{Bool, true, false, cond, _&&_, not}
 use mathlib.Core.List.{List, [], _∷_}
 use mathlib.Core.Option.{none, some}
@@ -18,6 +18,7 @@ use Rattle.word.specs.Bits.{bit, inRanges, someBelow}
 use Rattle.word.specs.Table.{Row, table, lookup, noRow}
 use Rattle.word.specs.Entries.{maskOf, masked}
 use Rattle.word.specs.Word.{opcodeOf, rowOf, strayAt, strayIn}
+use Rattle.word.proofs.Every.{Every}
 use Rattle.word.proofs.Masks.{mask-bits, some-same}
 
 -- a turn of the search
@@ -44,31 +45,35 @@ abbrev every : (Row → Bool) → List Row → Bool
 every f [] = true
 every f (r ∷ rs) = f r && every f rs
 
--- what holds of each row holds of the one that is found
-found-right : (f : Row → Bool) (rs : List Row) (op : ℕ) (r : Row) → every f rs ≡ true → lookup rs op ≡ some r → f r ≡ true
-found-right f [] op r h e = absurd (none-some e)
-  where
-    none-some : none ≡ some r → ⊥
-    none-some e = let z : _≡_ {A = ℕ} 0 1 = cc in omega arith
-found-right f (x ∷ rs) op r h e =
-    let b = both (f x) (every f rs) h in
-    split (eqb (x .opcode) op)
-    (λ t. let q : x ≡ r = here t in rw (sym q) (b .0))
-    (λ t. found-right f rs op r (b .1) (sym (ap (λ (z : Bool). cond z (some x) (lookup rs op)) t) ∙ e))
-  where
-    here : eqb (x .opcode) op ≡ true → x ≡ r
-    here t = let e′ : some x ≡ some r = sym (ap (λ (z : Bool). cond z (some x) (lookup rs op)) t) ∙ e in cc
-
 -- the whole table, computed
 rule : every right table ≡ true
 unfolding table between
 rule = refl
 
+-- ---- what holds of each row holds of the one that is found
+
+tested : (f : Row → Bool) (rs : List Row) → every f rs ≡ true → Every (λ r. f r ≡ true) rs
+tested f [] h = tt
+tested f (r ∷ rs) h = let b = both (f r) (every f rs) h in (b .0, tested f rs (b .1))
+
+pub found-of : (P : Row → Type 0) (rs : List Row) (op : ℕ) (r : Row) → Every P rs → lookup rs op ≡ some r → P r
+found-of P [] op r h e = absurd (none-some e)
+  where
+    none-some : none ≡ some r → ⊥
+    none-some e = let z : _≡_ {A = ℕ} 0 1 = cc in omega arith
+found-of P (x ∷ rs) op r h e =
+    split (eqb (x .opcode) op)
+    (λ t. subst P (here t) (h .0))
+    (λ t. found-of P rs op r (h .1) (sym (ap (λ (z : Bool). cond z (some x) (lookup rs op)) t) ∙ e))
+  where
+    here : eqb (x .opcode) op ≡ true → x ≡ r
+    here t = let e′ : some x ≡ some r = sym (ap (λ (z : Bool). cond z (some x) (lookup rs op)) t) ∙ e in cc
+
 -- so the mask says what the ranges say: an unnamed bit is 1 just where masking changes the word
 pub mask-ranges : (w : ℕ) (r : Row) → rowOf w ≡ some r → strayIn (some r) w ≡ not (masked w (maskOf (r .named)))
 mask-ranges w r e =
     let m = maskOf (r .named) in
-    let is = below-of (λ i. same (bit m i) (inRanges (r .named) i)) 24 (found-right right table (opcodeOf w) r rule e) in
+    let is = below-of (λ i. same (bit m i) (inRanges (r .named) i)) 24 (found-of (λ r. right r ≡ true) table (opcodeOf w) r (tested right table rule) e) in
     sym
     (ap not (mask-bits 24 (w % 2 ^ 24) m (omega arith)) ∙ not-not (someBelow (λ i. bit (w % 2 ^ 24) i && not (bit m i)) 24)
     ∙ some-same (λ i. bit (w % 2 ^ 24) i && not (bit m i)) (strayAt (r .named) w) 24

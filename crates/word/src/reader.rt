@@ -7,9 +7,11 @@ use crate::table::allows;
 use crate::table::find;
 ghost use mathlib.Core.Path.{_≡_};
 ghost use Rattle.word.specs.Word.{readWord};
+ghost use Rattle.word.specs.Fields.{readAnswer, wordAnswer};
 
 pub fn read_word(w: u32) -> Read
-    ensures { λ r. ⌜ r ≡ readWord w ⌝ }
+    ensures operands { λ r. ⌜ r ≡ readWord w ⌝ }
+    ensures numbers { λ r. ⌜ readAnswer r ≡ wordAnswer w ⌝ }
 {
     let Found::At(e) = find((w >> 24) % 256) else {
         return Read::Refused(Refusal::UnknownOpcode);

@@ -27,11 +27,11 @@ refused-if-requires-2 c κs = search needs
 
 returns : tie.Need-returns
 unfolding lowest
-returns c = λ a b. simp ((c .refused-if .ensures), (c .before .all-set .ensures), (c .before .before .before .output .given) .1)
+returns c = λ a b. simp ((c .refused-if .ensures .0), (c .before .all-set .ensures), (c .before .before .before .output .given) .1)
 
 returns-2 : tie.Need-returns-2
 unfolding lowest
-returns-2 c = λ a b. simp ((c .refused-if2 .ensures), (c .before .all-set2 .ensures), (c .before .before .one-register .ensures), (c .before .before .before .before .before .output2 .given) .1)
+returns-2 c = λ a b. simp ((c .refused-if2 .ensures .0), (c .before .all-set2 .ensures), (c .before .before .one-register .ensures), (c .before .before .before .before .before .output2 .given) .1)
 
 pub judge-output-spec : {M : Type 1} → statement M
 judge-output-spec =

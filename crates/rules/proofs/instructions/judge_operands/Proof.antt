@@ -1,5 +1,6 @@
 -- `rules::instructions::judge_operands` meets its contract. Assumes nothing.
 use Rattle.rules.specs.Rules.{operandRules, lowest}
+use Rattle.rules.proofs.Reading.{lowest-told}
 use borrow.Author.Needs.{needs}
 use Rattle.rules.proofs.instructions.judge_operands.Statement.{statement}
 use Rattle.rules.proofs.instructions.judge_operands.Tie as tie
@@ -57,39 +58,57 @@ judge-scalar-requires c κs = search needs
 
 returns : tie.Need-returns
 unfolding operandRules lowest
-returns c = simp ((c .judge-multiply .ensures), (c .before .before .f .given .1))
+returns c =
+    let a = c .before .before .before .before .args in
+    lowest-told (operandRules (a .c) (a .thread) (a .f)) (simp ((c .judge-multiply .ensures), (c .before .before .f .given .1)))
 
 returns-2 : tie.Need-returns-2
 unfolding operandRules lowest
-returns-2 c = simp ((c .refused-if .ensures), (c .before .both-owned .ensures), (c .before .before .enum-told .given .1))
+returns-2 c =
+    let a = c .before .before .before .before .args in
+    lowest-told (operandRules (a .c) (a .thread) (a .f)) (simp ((c .refused-if .ensures .0), (c .before .both-owned .ensures), (c .before .before .enum-told .given .1)))
 
 returns-3 : tie.Need-returns-3
 unfolding operandRules lowest
-returns-3 c = simp ((c .refused-if2 .ensures), (c .before .before .before .f2 .given .1))
+returns-3 c =
+    let a = c .before .before .before .before .before .args in
+    lowest-told (operandRules (a .c) (a .thread) (a .f)) (simp ((c .refused-if2 .ensures .0), (c .before .before .before .f2 .given .1)))
 
 returns-4 : tie.Need-returns-4
 unfolding operandRules lowest
-returns-4 c = simp ((c .refused-if3 .ensures), (c .before .before .before .f3 .given .1))
+returns-4 c =
+    let a = c .before .before .before .before .before .args in
+    lowest-told (operandRules (a .c) (a .thread) (a .f)) (simp ((c .refused-if3 .ensures .0), (c .before .before .before .f3 .given .1)))
 
 returns-5 : tie.Need-returns-5
 unfolding operandRules lowest
-returns-5 c = simp (c .enum-told2 .given .1)
+returns-5 c =
+    let a = c .before .before .args in
+    lowest-told (operandRules (a .c) (a .thread) (a .f)) (simp (c .enum-told2 .given .1))
 
 returns-6 : tie.Need-returns-6
 unfolding operandRules lowest
-returns-6 c = simp ((c .judge-shift-a .ensures), (c .before .before .f4 .given .1))
+returns-6 c =
+    let a = c .before .before .before .before .args in
+    lowest-told (operandRules (a .c) (a .thread) (a .f)) (simp ((c .judge-shift-a .ensures), (c .before .before .f4 .given .1)))
 
 returns-7 : tie.Need-returns-7
 unfolding operandRules lowest
-returns-7 c = simp ((c .judge-shift-b .ensures), (c .before .enum-told3 .given .1))
+returns-7 c =
+    let a = c .before .before .before .args in
+    lowest-told (operandRules (a .c) (a .thread) (a .f)) (simp ((c .judge-shift-b .ensures), (c .before .enum-told3 .given .1)))
 
 returns-8 : tie.Need-returns-8
 unfolding operandRules lowest
-returns-8 c = simp (c .enum-told4 .given .1)
+returns-8 c =
+    let a = c .before .before .args in
+    lowest-told (operandRules (a .c) (a .thread) (a .f)) (simp (c .enum-told4 .given .1))
 
 returns-9 : tie.Need-returns-9
 unfolding operandRules lowest
-returns-9 c = simp ((c .judge-scalar .ensures), (c .before .before .f5 .given .1))
+returns-9 c =
+    let a = c .before .before .before .before .args in
+    lowest-told (operandRules (a .c) (a .thread) (a .f)) (simp ((c .judge-scalar .ensures), (c .before .before .f5 .given .1)))
 
 pub judge-operands-spec : {M : Type 1} → statement M
 judge-operands-spec =

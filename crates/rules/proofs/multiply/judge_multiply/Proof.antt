@@ -33,7 +33,7 @@ refused-if-requires c κs = search needs
 
 returns-2 : tie.Need-returns-2
 unfolding operandRules lowest rowDst
-returns-2 c = simp (← (c .before .before .before .before .before .before .before .before .before .before .before .multiply-modes .ensures), lt-leb _ _ (c .before .before .before .before .before .before .before .before .before .if1 .left), ← (c .before .before .before .before .before .before .before .is-modelled .ensures), c .before .before .before .before .before .before .if2 .taken, ← (c .before .before .before .before .before .both-owned .ensures), c .before .before .before .before .if3 .taken, c .refused-if .ensures, c .before .past-end .ensures, c .before .before .row-dst .ensures, c .before .before .before .thread-at .ensures)
+returns-2 c = simp (← (c .before .before .before .before .before .before .before .before .before .before .before .multiply-modes .ensures), lt-leb _ _ (c .before .before .before .before .before .before .before .before .before .if1 .left), ← (c .before .before .before .before .before .before .before .is-modelled .ensures), c .before .before .before .before .before .before .if2 .taken, ← (c .before .before .before .before .before .both-owned .ensures), c .before .before .before .before .if3 .taken, c .refused-if .ensures .0, c .before .past-end .ensures, c .before .before .row-dst .ensures, c .before .before .before .thread-at .ensures)
 
 returns-3 : tie.Need-returns-3
 unfolding operandRules lowest

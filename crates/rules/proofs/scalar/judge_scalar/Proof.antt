@@ -10,7 +10,7 @@ refused-if-requires : tie.Need-refused-if-requires
 refused-if-requires c κs = search needs
 
 returns : tie.Need-returns
-returns c = simp ((c .refused-if .ensures), (c .before .before .scalar-modes .ensures))
+returns c = simp ((c .refused-if .ensures .0), (c .before .before .scalar-modes .ensures))
 
 pub judge-scalar-spec : {M : Type 1} → statement M
 judge-scalar-spec = tie.close (tie.spec scalar-modes-requires refused-if-requires returns)

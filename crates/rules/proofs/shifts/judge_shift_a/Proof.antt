@@ -17,7 +17,7 @@ refused-if-requires c κs = search needs
 
 returns-2 : tie.Need-returns-2
 unfolding operandRules lowest
-returns-2 c = simp (le-ltb _ _ (c .before .before .before .if1 .left), (c .refused-if .ensures), (c .before .matrix-owns .ensures))
+returns-2 c = simp (le-ltb _ _ (c .before .before .before .if1 .left), (c .refused-if .ensures .0), (c .before .matrix-owns .ensures))
 
 pub judge-shift-a-spec : {M : Type 1} → statement M
 judge-shift-a-spec =

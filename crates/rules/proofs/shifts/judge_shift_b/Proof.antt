@@ -10,7 +10,7 @@ refused-if-requires : tie.Need-refused-if-requires
 refused-if-requires c κs = search needs
 
 returns : tie.Need-returns
-returns c = simp ((c .refused-if .ensures), (c .before .matrix-owns .ensures))
+returns c = simp ((c .refused-if .ensures .0), (c .before .matrix-owns .ensures))
 
 pub judge-shift-b-spec : {M : Type 1} → statement M
 judge-shift-b-spec = tie.close (tie.spec matrix-owns-requires refused-if-requires returns)

@@ -55,11 +55,11 @@ slot-used-requires c κs = search needs
 apply-slot-requires : tie.Need-apply-slot-requires
 apply-slot-requires c κs = search needs
 
-mul-t14 : tie.Need-mul-t14
-mul-t14 c = search needs
+mul-after : tie.Need-mul-after
+mul-after c = search needs
 
-element-set-from-c : tie.Need-element-set-from-c
-element-set-from-c c = search needs
+element-set-from-after : tie.Need-element-set-from-after
+element-set-from-after c = search needs
 
 last-row-requires : tie.Need-last-row-requires
 last-row-requires c κs = search needs
@@ -98,8 +98,8 @@ moved-spec =
     element-copy-out-x
     slot-used-requires
     apply-slot-requires
-    mul-t14
-    element-set-from-c
+    mul-after
+    element-set-from-after
     last-row-requires
     returns
     start-thread-requires

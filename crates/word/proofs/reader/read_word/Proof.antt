@@ -1,9 +1,18 @@
 -- `word::reader::read_word` meets its contract. Assumes nothing.
+use mathlib.Core.Path.{_≡_, sym, ap, _∙_}
+use Prim.Native.Nat.{ℕ}
+use Rattle.word.specs.Word.{readWord}
+use Rattle.word.specs.Fields.{readAnswer, wordAnswer}
+use Rattle.word.specs.declared.Read.{Read}
 use Rattle.word.proofs.ReadWords.{read-none, read-at}
-use mathlib.Core.Path.{sym, _∙_}
+use Rattle.word.proofs.FieldNumbers.{read-answer}
 use borrow.Author.Needs.{needs}
 use Rattle.word.proofs.reader.read_word.Statement.{statement}
 use Rattle.word.proofs.reader.read_word.Tie as tie
+
+-- the numbers go by the answer
+told : (w : ℕ) {r : Read} → r ≡ readWord w → (r ≡ readWord w) × (readAnswer r ≡ wordAnswer w)
+told w e = (e, ap readAnswer e ∙ read-answer w)
 
 find-requires : tie.Need-find-requires
 find-requires c κs = search needs
@@ -15,7 +24,9 @@ enum-told : tie.Need-enum-told
 enum-told c = search needs
 
 returns : tie.Need-returns
-returns c = sym (read-none (c .before .before .before .args .w) (sym (c .before .before .find .ensures) ∙ (c .enum-told .given .1)))
+returns c =
+    let w = c .before .before .before .args .w in
+    told w (sym (read-none w (sym (c .before .before .find .ensures) ∙ (c .enum-told .given .1))))
 
 allows-requires : tie.Need-allows-requires
 allows-requires c κs = search needs
@@ -24,10 +35,12 @@ operands-of-requires : tie.Need-operands-of-requires
 operands-of-requires c κs = search needs
 
 returns-2 : tie.Need-returns-2
-returns-2 c = simp (read-at _ _ (sym (c .before .before .before .before .before .before .find .ensures) ∙ (c .before .before .before .before .e .given .1)), ← (c .before .before .allows .ensures), (c .before .if1 .taken), (c .operands-of .ensures))
+returns-2 c =
+    told _ (simp (read-at _ _ (sym (c .before .before .before .before .before .before .find .ensures) ∙ (c .before .before .before .before .e .given .1)), ← (c .before .before .allows .ensures), (c .before .if1 .taken), (c .operands-of .ensures)))
 
 returns-3 : tie.Need-returns-3
-returns-3 c = simp (read-at _ _ (sym (c .before .before .before .before .before .find .ensures) ∙ (c .before .before .before .e .given .1)), ← (c .before .allows .ensures), (c .if1 .left))
+returns-3 c =
+    told _ (simp (read-at _ _ (sym (c .before .before .before .before .before .find .ensures) ∙ (c .before .before .before .e .given .1)), ← (c .before .allows .ensures), (c .if1 .left)))
 
 pub read-word-spec : {M : Type 1} → statement M
 read-word-spec =

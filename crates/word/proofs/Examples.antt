@@ -1,0 +1,22 @@
+-- Words in the paper's numbers, worked: the three scalar instructions of its worked numbers (xor of register 1 and 5 into 3; the constant 33), INCRWC, GAPOOL,
+-- DOTPV, a legacy instruction with a dst, SHIFTXB; an unknown opcode; GAPOOL's bit 14 and SETRWC's bit 4, which the paper does not name. Assumes nothing.
+use mathlib.Core.Path.{_≡_, refl}
+use mathlib.Core.List.{[], _∷_, map}
+use Rattle.cells.specs.Cells.{between}
+use Rattle.word.specs.Table.{table}
+use Rattle.word.specs.Fields.{fields, refusedBy, wordAnswer}
+
+pub answers : map wordAnswer
+    (0x5B883141 ∷ 0x5C802841 ∷ 0x5D000081 ∷ 0x38020000 ∷ 0x3400000D
+    ∷ 0x29C0C200 ∷ 0x31C2C1FF ∷ 0x18000400 ∷ 0x27000000 ∷ 0x34004000 ∷ 0x37000010 ∷ [])
+    ≡ (fields 0x5B (1 ∷ 2 ∷ 3 ∷ 5 ∷ 1 ∷ [])
+    ∷ fields 0x5C (1 ∷ 0 ∷ 2 ∷ 33 ∷ 1 ∷ [])
+    ∷ fields 0x5D (0 ∷ 0 ∷ 0 ∷ 2 ∷ 1 ∷ [])
+    ∷ fields 0x38 (0 ∷ 8 ∷ 0 ∷ 0 ∷ [])
+    ∷ fields 0x34 (0 ∷ 0 ∷ 0 ∷ 13 ∷ [])
+    ∷ fields 0x26 (3 ∷ 0 ∷ 3 ∷ 512 ∷ [])
+    ∷ fields 0x22 (3 ∷ 3 ∷ [])
+    ∷ fields 0x18 (0 ∷ 1 ∷ 0 ∷ [])
+    ∷ refusedBy 2 ∷ refusedBy 3 ∷ refusedBy 3 ∷ [])
+unfolding wordAnswer table between
+answers = refl
