@@ -1,42 +1,57 @@
-// Writing to standard output: a text, and all that a run job prints.
+// What the programs do around the proved work: they read the input, write texts, and say how they ended.
+mod end;
+mod input;
+
+pub use end::End;
+pub use end::check_end;
+pub use end::run_end;
+pub use end::say;
+pub use end::told;
+pub use input::Input;
+pub use input::read;
 use lines::Found;
 use lines::Text;
 use run::Outcome;
 
-fn put_first(bytes: &[u8], n: usize) {
+fn put_first(bytes: &[u8], n: usize) -> bool {
     if n <= bytes.len() {
-        io::write_all(1, &bytes[..n]);
+        return io::write_all(libc::STDOUT_FILENO, &bytes[..n]);
     }
+    false
 }
 
-pub fn put(t: Text) {
+// Whether all of the text was written.
+pub fn put(t: Text) -> bool {
     let bytes = t.bytes;
-    put_first(&bytes, t.len);
+    put_first(&bytes, t.len)
 }
 
-fn put_lines(job: &[u8], dst: &[u32], registers: &[u32]) {
+fn put_lines(job: &[u8], dst: &[u32], registers: &[u32]) -> bool {
     let mut c = lines::start();
     loop {
         let f = lines::next(job, c);
         match f {
             Found::Line { what, after } => {
-                put(lines::line_text(what, dst, registers));
+                if !put(lines::line_text(what, dst, registers)) {
+                    return false;
+                }
                 c = after;
             }
-            Found::End => return,
+            Found::End => return true,
         }
     }
 }
 
-// The count and the lines from the final state, or the refusal.
-pub fn put_outcome(job: &[u8], outcome: Outcome, dst: &[u32], registers: &[u32]) {
+// The count and the lines from the final state, or the refusal: whether all of it was written. Nothing is written after a
+// write that failed.
+pub fn put_outcome(job: &[u8], outcome: Outcome, dst: &[u32], registers: &[u32]) -> bool {
     match outcome {
         Outcome::Finished(count) => {
-            put(lines::finished_text(count));
-            put_lines(job, dst, registers);
+            if !put(lines::finished_text(count)) {
+                return false;
+            }
+            put_lines(job, dst, registers)
         }
-        Outcome::Refused(refusal, place) => {
-            put(lines::refused_text(refusal, place));
-        }
+        Outcome::Refused(refusal, place) => put(lines::refused_text(refusal, place)),
     }
 }

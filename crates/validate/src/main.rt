@@ -1,12 +1,23 @@
 // Reads a job from standard input and prints whether the pre-check passes it; it runs nothing.
 use precheck::Checked;
+use show::End;
+
+fn check_job(job: &[u8]) -> End {
+    let checked = precheck::precheck(job);
+    let written = match checked {
+        Checked::Passed(count) => show::put(lines::passed_text(count)),
+        Checked::Refused(refusal, place) => show::put(lines::refused_text(refusal, place)),
+    };
+    show::told(show::check_end(checked), written)
+}
 
 fn main() {
     let mut buffer = [0u8; cells::JOB_BYTES + 1];
-    let n = io::read_full(0, &mut buffer);
-    let checked = precheck::precheck(&buffer[..n]);
-    match checked {
-        Checked::Passed(count) => show::put(lines::passed_text(count)),
-        Checked::Refused(refusal, place) => show::put(lines::refused_text(refusal, place)),
+    let input = show::read(libc::STDIN_FILENO, &mut buffer);
+    if !input.whole {
+        show::say(End::Unread);
+        return;
     }
+    let n = input.len;
+    show::say(check_job(&buffer[..n]));
 }

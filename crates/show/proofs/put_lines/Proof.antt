@@ -38,8 +38,11 @@ line-text-requires c κs = search needs
 put-requires : tie.Need-put-requires Inv-loop μ-loop
 put-requires c κs = search needs
 
+returns : tie.Need-returns Inv-loop μ-loop
+returns c = search needs
+
 loop-less : tie.Need-loop-less Inv-loop μ-loop
-loop-less c = fewer _ (state [] [] [] []) _ _ _ (sym (c .before .before .before .before .before .next .ensures) ∙ (c .before .before .before .f .given .1))
+loop-less c = fewer _ (state [] [] [] []) _ _ _ (sym (c .before .before .before .before .before .before .next .ensures) ∙ (c .before .before .before .before .f .given .1))
 
 loop-again : tie.Need-loop-again Inv-loop μ-loop
 loop-again c = tt
@@ -47,8 +50,8 @@ loop-again c = tt
 enum-told : tie.Need-enum-told Inv-loop μ-loop
 enum-told c = search needs
 
-returns : tie.Need-returns Inv-loop μ-loop
-returns c = search needs
+returns-2 : tie.Need-returns-2 Inv-loop μ-loop
+returns-2 c = search needs
 
 pub put-lines-spec : {M : Type 1} → statement M
 put-lines-spec =
@@ -62,7 +65,8 @@ put-lines-spec =
     enum-known-f
     line-text-requires
     put-requires
+    returns
     loop-less
     loop-again
     enum-told
-    returns)
+    returns-2)
