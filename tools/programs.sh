@@ -23,9 +23,9 @@ fail() {
 
 # A closed descriptor would be given to the next file that is opened.
 check_descriptors() { # [FILE]
-    (: >&2) || exec 2>/dev/null
-    (: >&1) 2>/dev/null || fail "standard output is closed"
-    if ! (: <&0) 2>/dev/null; then
+    (: 4>&2) || exec 2>/dev/null
+    (: 4>&1) 2>/dev/null || fail "standard output is closed"
+    if ! (: 4<&0) 2>/dev/null; then
         [ $# -gt 0 ] || fail "standard input is closed"
         exec </dev/null
     fi
