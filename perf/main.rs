@@ -63,8 +63,8 @@ fn multiply_all(products: &[Product], state: &mut State) {
 }
 
 /// Our run against the second program's; for multiplies also against its run with the tuned
-/// multiply, and against the tuned multiplies with all else left out. Answers our time.
-fn measure_run(name: &str, job: &[u8]) -> f64 {
+/// multiply, and against the tuned multiplies with all else left out. Answers all times, ours first.
+fn measure_run(name: &str, job: &[u8]) -> Vec<f64> {
     let finished = same(name, job);
     let products = products(job);
     let [mut a, mut b, mut c, mut d] = [(); 4].map(|()| finished.clone());
@@ -85,7 +85,7 @@ fn measure_run(name: &str, job: &[u8]) -> f64 {
     let t = times(&mut contenders);
     let others = [1, 2, 3].map(|n| t.get(n).copied());
     row(name, job, t[0], &others);
-    t[0]
+    t
 }
 
 fn measure_precheck(name: &str, job: &[u8]) {
@@ -103,13 +103,15 @@ fn measure_precheck(name: &str, job: &[u8]) {
 
 /// The same work in rows of 32-bit and of 16-bit numbers, the proved run of both by turns. Only the
 /// ratio is printed: a job has its time in one table.
-fn measure_widths(name: &str, make: impl Fn(Mode) -> Vec<u8>) {
+fn measure_widths(name: &str, make: impl Fn(Mode) -> Vec<u8>) -> f64 {
     let jobs = [Mode::Bf16In32, Mode::Bf16].map(make);
     let mut states = [same(name, &jobs[0]), same(name, &jobs[1])];
     let pairs = jobs.iter().zip(&mut states);
     let mut contenders: Vec<Contender> = pairs.map(|(job, s)| proved_contender(job, s)).collect();
     let t = times(&mut contenders);
-    println!("| {name} | {:.2} |", t[1] / t[0]);
+    let ratio = t[1] / t[0];
+    println!("| {name} | {ratio:.2} |");
+    ratio
 }
 
 type Maker = fn(&mut Rng, usize) -> Vec<u8>;
@@ -161,7 +163,7 @@ fn table(title: &str, columns: &[&str]) {
     println!("|{}", "---|".repeat(columns.len()));
 }
 
-fn run_table(named: &[Named]) -> Vec<f64> {
+fn run_table(named: &[Named]) -> Vec<Vec<f64>> {
     let others = ["Second program", "Ratio", "Tuned", "Ratio"];
     let alone = ["Its multiplies alone", "Ratio"];
     let columns = [&["Job", "Bytes", "Proved"], &others[..], &alone].concat();
@@ -170,23 +172,59 @@ fn run_table(named: &[Named]) -> Vec<f64> {
     measured.collect()
 }
 
-fn width_table() {
+fn width_table() -> [f64; 4] {
     table(
         "Rows of 16-bit numbers against rows of 32-bit ones, format 2",
         &["Job", "Ratio of the proved run's times"],
     );
-    measure_widths("1,000 MVMULs, cleared Src", |mode| {
-        jobs::cleared_multiplies(mode, 1000)
-    });
-    measure_widths("800 MVMULs, loaded Src", |mode| {
-        jobs::loaded_multiplies(&mut Rng(1), mode, 800)
-    });
-    measure_widths("1,000 zeroings of 512 rows", |mode| {
-        jobs::zeroings(mode, 1000)
-    });
-    measure_widths("2 loads of 60 rows", |mode| {
-        jobs::dst_loads(&mut Rng(1), mode)
-    });
+    [
+        measure_widths("1,000 MVMULs, cleared Src", |mode| {
+            jobs::cleared_multiplies(mode, 1000)
+        }),
+        measure_widths("800 MVMULs, loaded Src", |mode| {
+            jobs::loaded_multiplies(&mut Rng(1), mode, 800)
+        }),
+        measure_widths("1,000 zeroings of 512 rows", |mode| {
+            jobs::zeroings(mode, 1000)
+        }),
+        measure_widths("2 loads of 60 rows", |mode| {
+            jobs::dst_loads(&mut Rng(1), mode)
+        }),
+    ]
+}
+
+fn target(name: &str, most: f64, ratios: &[f64]) {
+    let printed: Vec<String> = ratios.iter().map(|r| format!("{r:.2}")).collect();
+    // what is printed decides, so that the table does not contradict itself
+    let met = printed.iter().all(|r| r.parse::<f64>().unwrap() <= most);
+    let verdict = if met { "met" } else { "missed" };
+    println!("| {name} | {most} | {} | {verdict} |", printed.join(", "));
+}
+
+fn target_table(runs: &[Vec<f64>], widths: [f64; 4]) {
+    table("Targets", &["Target", "At most", "Measured", ""]);
+    let ratio = |job: usize, other: usize| runs[job][0] / runs[job][other];
+    let tuned = "multiply-heavy against the tuned version";
+    target(
+        &format!("{tuned}, 32-bit Dst"),
+        1.1,
+        &[ratio(0, 2), ratio(1, 2)],
+    );
+    target(
+        &format!("{tuned}, BF16 Dst"),
+        1.1,
+        &[ratio(2, 2), ratio(3, 2)],
+    );
+    let second = "against the second program";
+    target(&format!("scalar-heavy {second}"), 1.5, &[ratio(4, 1)]);
+    target(
+        &format!("load-heavy {second}"),
+        1.5,
+        &[ratio(5, 1), ratio(6, 1)],
+    );
+    let widths_name = "16-bit rows against 32-bit ones";
+    target(&format!("multiplies, {widths_name}"), 1.2, &widths[..2]);
+    target(&format!("zeroing, {widths_name}"), 3.0, &widths[2..3]);
 }
 
 fn precheck_table(named: &[Named]) {
@@ -199,7 +237,7 @@ fn precheck_table(named: &[Named]) {
     }
 }
 
-fn growth_table(proved: &[f64]) {
+fn growth_table(runs: &[Vec<f64>]) {
     table(
         "Growth of the proved run with the job's size, in microseconds for each",
         &["Each", "1/16 of the job", "1/8", "1/4", "1/2", "The job"],
@@ -207,14 +245,18 @@ fn growth_table(proved: &[f64]) {
     let multiplies: Maker = |_, n| jobs::cleared_multiplies(Mode::Tf32, n);
     growth(
         "MVMUL, cleared Src, of 1,000",
-        (1000, proved[0]),
+        (1000, runs[0][0]),
         multiplies,
     );
-    growth("scalar instruction of 980", (980, proved[4]), jobs::scalars);
-    growth("row loaded of 124", (124, proved[5]), jobs::row_loads);
+    growth(
+        "scalar instruction of 980",
+        (980, runs[4][0]),
+        jobs::scalars,
+    );
+    growth("row loaded of 124", (124, runs[5][0]), jobs::row_loads);
     growth(
         "register loaded of 890",
-        (890, proved[6]),
+        (890, runs[6][0]),
         jobs::register_loads,
     );
 }
@@ -243,13 +285,15 @@ fn main() -> ExitCode {
         return ExitCode::from(2);
     };
     let named = named_jobs();
-    let proved = run_table(&named);
+    let runs = run_table(&named);
     println!();
-    width_table();
+    let widths = width_table();
+    println!();
+    target_table(&runs, widths);
     println!();
     precheck_table(&named);
     println!();
-    growth_table(&proved);
+    growth_table(&runs);
     println!();
     process_table(emulate, &named);
     ExitCode::SUCCESS

@@ -1,6 +1,6 @@
 # The proved programs. Sourced by tests/programs/run.
 wrapper=$top/emulate
-cases=23
+cases=24
 is_built() (. tools/programs.sh && look && all_made)
 if [ "${1:-}" = --build ] && ! "$wrapper" --version; then
     wrong "the programs cannot be built"
@@ -43,6 +43,14 @@ else
     : >"$room/out"
     status=$(cat "$room/status") && ended "a file that may not grow" 3 "" "cannot be written"
     holds "what was written before is the start of the output" cmp "$room/cut" <(head -c 1024 examples/tile_fp32.out)
+
+    # ---- a program that the system kills, here for want of stack, has given no answer
+    (
+        ulimit -s 32
+        "$wrapper" examples/register.job >"$room/out" 2>"$room/err"
+        echo $? >"$room/status"
+    )
+    status=$(cat "$room/status") && ended "a killed program" 3 "" "did not say how"
 
     # ---- the program alone, as the toolchain runs it: nothing on descriptor 3, and the same output
     wrapper=$top/target/bin/emulate
