@@ -105,11 +105,11 @@ make_ready() {
         flock 9
         look
     fi
-    all_made || make
+    all_made || make_programs
     exec 9>&-
 }
 
-make() {
+make_programs() {
     before="$sources $toolchain" log=$top/target/emulate.log
     # rt would keep a program whose sources are unchanged, whatever stands in its file
     for p in $programs; do rm -f "$bin/$p" "$bin/$p.stamp" "$top/target/stamp/$p"; done
@@ -139,11 +139,11 @@ make() {
 # A program says its exit status on descriptor 3, as the last thing that it does, and 0 or 1 only where it has written all.
 # One that says nothing, or was killed, has given no answer. A pipe that nobody reads is an error to it, not its end.
 run() { # PROGRAM [FILE]
-    run=$bin/$1 status=0
+    path=$bin/$1 status=0
     if [ $# -gt 1 ]; then
-        { said=$(trap '' PIPE && exec "$run" <"$2" 3>&1 >&4 4>&-); } 4>&1 || status=$?
+        { said=$(trap '' PIPE && exec "$path" <"$2" 3>&1 >&4 4>&-); } 4>&1 || status=$?
     else
-        { said=$(trap '' PIPE && exec "$run" 3>&1 >&4 4>&-); } 4>&1 || status=$?
+        { said=$(trap '' PIPE && exec "$path" 3>&1 >&4 4>&-); } 4>&1 || status=$?
     fi
     case $status:$said in
     0:[013]) leave "$said" ;;
@@ -152,8 +152,12 @@ run() { # PROGRAM [FILE]
 }
 
 print_version() {
-    commit=$(git -C "$top" rev-parse HEAD 2>/dev/null) || commit='no commit'
-    [ -z "$(git -C "$top" status --porcelain 2>/dev/null)" ] || commit="$commit, with changes"
+    # a folder without .git may stand in somebody else's repository
+    commit='no commit'
+    if [ -e "$top/.git" ] && head=$(git -C "$top" rev-parse HEAD 2>/dev/null); then
+        commit=$head
+        [ -z "$(git -C "$top" status --porcelain 2>/dev/null)" ] || commit="$head, with changes"
+    fi
     printf '%s\n' "vintrazzola $commit" "sources $sources" "toolchain $toolchain" || fail "the output cannot be written"
     for p in $programs; do
         printf '%s\n' "program $p $(sed -n 's/^program //p' "$bin/$p.stamp")" || fail "the output cannot be written"
