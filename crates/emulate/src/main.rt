@@ -7,7 +7,7 @@ fn run_job(job: &[u8]) -> End {
     let mut dst = [0u32; cells::DST_NUMBERS];
     let mut registers = [0u32; cells::REGISTERS];
     let outcome = run::run(job, &mut srca, &mut srcb, &mut dst, &mut registers);
-    let written = show::put_outcome(job, outcome, &dst, &registers);
+    let written = show::put_outcome(libc::STDOUT_FILENO, job, outcome, &dst, &registers);
     show::told(show::run_end(outcome), written)
 }
 

@@ -13,26 +13,26 @@ use lines::Found;
 use lines::Text;
 use run::Outcome;
 
-fn put_first(bytes: &[u8], n: usize) -> bool {
+fn put_first(fd: i32, bytes: &[u8], n: usize) -> bool {
     if n <= bytes.len() {
-        return io::write_all(libc::STDOUT_FILENO, &bytes[..n]);
+        return io::write_all(fd, &bytes[..n]);
     }
     false
 }
 
 // Whether all of the text was written.
-pub fn put(t: Text) -> bool {
+pub fn put(fd: i32, t: Text) -> bool {
     let bytes = t.bytes;
-    put_first(&bytes, t.len)
+    put_first(fd, &bytes, t.len)
 }
 
-fn put_lines(job: &[u8], dst: &[u32], registers: &[u32]) -> bool {
+fn put_lines(fd: i32, job: &[u8], dst: &[u32], registers: &[u32]) -> bool {
     let mut c = lines::start();
     loop {
         let f = lines::next(job, c);
         match f {
             Found::Line { what, after } => {
-                if !put(lines::line_text(what, dst, registers)) {
+                if !put(fd, lines::line_text(what, dst, registers)) {
                     return false;
                 }
                 c = after;
@@ -44,14 +44,14 @@ fn put_lines(job: &[u8], dst: &[u32], registers: &[u32]) -> bool {
 
 // The count and the lines from the final state, or the refusal: whether all of it was written. Nothing is written after a
 // write that failed.
-pub fn put_outcome(job: &[u8], outcome: Outcome, dst: &[u32], registers: &[u32]) -> bool {
+pub fn put_outcome(fd: i32, job: &[u8], outcome: Outcome, dst: &[u32], registers: &[u32]) -> bool {
     match outcome {
         Outcome::Finished(count) => {
-            if !put(lines::finished_text(count)) {
+            if !put(fd, lines::finished_text(count)) {
                 return false;
             }
-            put_lines(job, dst, registers)
+            put_lines(fd, job, dst, registers)
         }
-        Outcome::Refused(refusal, place) => put(lines::refused_text(refusal, place)),
+        Outcome::Refused(refusal, place) => put(fd, lines::refused_text(refusal, place)),
     }
 }

@@ -4,10 +4,11 @@ use show::End;
 
 fn check_job(job: &[u8]) -> End {
     let checked = precheck::precheck(job);
-    let written = match checked {
-        Checked::Passed(count) => show::put(lines::passed_text(count)),
-        Checked::Refused(refusal, place) => show::put(lines::refused_text(refusal, place)),
+    let text = match checked {
+        Checked::Passed(count) => lines::passed_text(count),
+        Checked::Refused(refusal, place) => lines::refused_text(refusal, place),
     };
+    let written = show::put(libc::STDOUT_FILENO, text);
     show::told(show::check_end(checked), written)
 }
 

@@ -8,7 +8,7 @@ fn run_job(job: &[u8]) -> bool {
     let mut dst = [0u32; cells::DST_NUMBERS];
     let mut registers = [0u32; cells::REGISTERS];
     let outcome = run::run(job, &mut srca, &mut srcb, &mut dst, &mut registers);
-    show::put_outcome(job, outcome, &dst, &registers)
+    show::put_outcome(libc::STDOUT_FILENO, job, outcome, &dst, &registers)
 }
 
 fn put_index(index: u64) -> bool {

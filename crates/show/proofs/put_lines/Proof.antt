@@ -15,10 +15,10 @@ use Rattle.lines.proofs.start.Reads as start-reads
 use Rattle.show.proofs.put.Reads as put-reads
 
 abbrev Inv-loop : tie.InvT-loop
-Inv-loop job dst registers c₀ c = Unit {0}
+Inv-loop fd job dst registers c₀ c = Unit {0}
 
 abbrev μ-loop : tie.MeasureT-loop
-μ-loop job dst registers c₀ c = length (linesAt job c (state [] [] [] []))
+μ-loop fd job dst registers c₀ c = length (linesAt job c (state [] [] [] []))
 
 start-requires : tie.Need-start-requires Inv-loop μ-loop
 start-requires c κs = search needs
