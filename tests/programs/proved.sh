@@ -44,13 +44,21 @@ else
     status=$(cat "$room/status") && ended "a file that may not grow" 3 "" "cannot be written"
     holds "what was written before is the start of the output" cmp "$room/cut" <(head -c 1024 examples/tile_fp32.out)
 
-    # ---- a program that the system kills, here for want of stack, has given no answer
-    (
-        ulimit -s 32
-        "$wrapper" examples/register.job >"$room/out" 2>"$room/err"
-        echo $? >"$room/status"
-    )
-    status=$(cat "$room/status") && ended "a killed program" 3 "" "did not say how"
+    # ---- a program that is killed, here while it waits for its job, has given no answer
+    mkfifo "$room/slow"
+    exec 6<>"$room/slow"
+    "$wrapper" <&6 >"$room/out" 2>"$room/err" &
+    waiting=$!
+    for _ in {1..200}; do
+        read -r child _ <"/proc/$waiting/task/$waiting/children"
+        [ "$(readlink "/proc/$child/exe")" != "$top/target/bin/emulate" ] || break
+        sleep 0.05
+    done
+    kill -9 "$child"
+    status=0
+    wait "$waiting" || status=$?
+    exec 6>&-
+    ended "a killed program" 3 "" "status 137"
 
     # ---- the program alone, as the toolchain runs it: nothing on descriptor 3, and the same output
     wrapper=$top/target/bin/emulate
