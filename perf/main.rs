@@ -63,8 +63,8 @@ fn multiply_all(products: &[Product], state: &mut State) {
 }
 
 /// Our run against the second program's; for multiplies also against its run with the tuned
-/// multiply, and against the tuned multiplies with all else left out.
-fn measure_run(name: &str, job: &[u8]) {
+/// multiply, and against the tuned multiplies with all else left out. Answers all times, ours first.
+fn measure_run(name: &str, job: &[u8]) -> Vec<f64> {
     let finished = same(name, job);
     let products = products(job);
     let [mut a, mut b, mut c, mut d] = [(); 4].map(|()| finished.clone());
@@ -85,6 +85,7 @@ fn measure_run(name: &str, job: &[u8]) {
     let t = times(&mut contenders);
     let others = [1, 2, 3].map(|n| t.get(n).copied());
     row(name, job, t[0], &others);
+    t
 }
 
 fn measure_precheck(name: &str, job: &[u8]) {
@@ -100,34 +101,33 @@ fn measure_precheck(name: &str, job: &[u8]) {
     row(name, job, t[0], &[Some(t[1])]);
 }
 
-/// The same work in rows of 32-bit and of 16-bit numbers, the proved run of both.
-fn measure_widths(name: &str, make: impl Fn(Mode) -> Vec<u8>) {
+/// The same work in rows of 32-bit and of 16-bit numbers, the proved run of both by turns. Only the
+/// ratio is printed: a job has its time in one table.
+fn measure_widths(name: &str, make: impl Fn(Mode) -> Vec<u8>) -> f64 {
     let jobs = [Mode::Bf16In32, Mode::Bf16].map(make);
     let mut states = [same(name, &jobs[0]), same(name, &jobs[1])];
     let pairs = jobs.iter().zip(&mut states);
     let mut contenders: Vec<Contender> = pairs.map(|(job, s)| proved_contender(job, s)).collect();
     let t = times(&mut contenders);
     let ratio = t[1] / t[0];
-    println!("| {name} | {:.1} | {:.1} | {ratio:.2} |", t[0], t[1]);
+    println!("| {name} | {ratio:.2} |");
+    ratio
 }
 
 type Maker = fn(&mut Rng, usize) -> Vec<u8>;
 
-fn growth(name: &str, unit: &str, make: Maker, sizes: [usize; 5]) {
-    let mut before: Option<(usize, f64)> = None;
-    for size in sizes {
+/// The cost of each instruction, row or register in jobs of a sixteenth, an eighth, a quarter and a
+/// half of the whole one, whose time is known.
+fn growth(name: &str, whole: (usize, f64), make: Maker) {
+    print!("| {name} |");
+    for part in [16, 8, 4, 2] {
+        let size = whole.0 / part;
         let job = make(&mut Rng(1), size);
         let mut state = same(name, &job);
         let t = times(&mut [proved_contender(&job, &mut state)])[0];
-        print!("| {name} | {size} {unit} | {} | {t:.1} |", job.len());
-        match before {
-            Some((size_before, time)) => {
-                println!(" {:.3} |", (t - time) / (size - size_before) as f64);
-            }
-            None => println!(" |"),
-        }
-        before = Some((size, t));
+        print!(" {:.3} |", t / size as f64);
     }
+    println!(" {:.3} |", whole.1 / whole.0 as f64);
 }
 
 type Named = (&'static str, Vec<u8>);
@@ -163,33 +163,68 @@ fn table(title: &str, columns: &[&str]) {
     println!("|{}", "---|".repeat(columns.len()));
 }
 
-fn run_table(named: &[Named]) {
+fn run_table(named: &[Named]) -> Vec<Vec<f64>> {
     let others = ["Second program", "Ratio", "Tuned", "Ratio"];
     let alone = ["Its multiplies alone", "Ratio"];
     let columns = [&["Job", "Bytes", "Proved"], &others[..], &alone].concat();
     table("The job run, in microseconds", &columns);
-    for (name, job) in named {
-        measure_run(name, job);
-    }
+    let measured = named.iter().map(|(name, job)| measure_run(name, job));
+    measured.collect()
 }
 
-fn width_table() {
+fn width_table() -> [f64; 4] {
     table(
-        "BF16 Dst rows against 32-bit ones, format 2, in microseconds",
-        &["Job", "32 bits", "16 bits", "Ratio"],
+        "Rows of 16-bit numbers against rows of 32-bit ones, format 2",
+        &["Job", "Ratio of the proved run's times"],
     );
-    measure_widths("1,000 MVMULs, cleared Src", |mode| {
-        jobs::cleared_multiplies(mode, 1000)
-    });
-    measure_widths("800 MVMULs, loaded Src", |mode| {
-        jobs::loaded_multiplies(&mut Rng(1), mode, 800)
-    });
-    measure_widths("1,000 zeroings of 512 rows", |mode| {
-        jobs::zeroings(mode, 1000)
-    });
-    measure_widths("2 loads of 60 rows", |mode| {
-        jobs::dst_loads(&mut Rng(1), mode)
-    });
+    [
+        measure_widths("1,000 MVMULs, cleared Src", |mode| {
+            jobs::cleared_multiplies(mode, 1000)
+        }),
+        measure_widths("800 MVMULs, loaded Src", |mode| {
+            jobs::loaded_multiplies(&mut Rng(1), mode, 800)
+        }),
+        measure_widths("1,000 zeroings of 512 rows", |mode| {
+            jobs::zeroings(mode, 1000)
+        }),
+        measure_widths("2 loads of 60 rows", |mode| {
+            jobs::dst_loads(&mut Rng(1), mode)
+        }),
+    ]
+}
+
+fn target(name: &str, most: f64, ratios: &[f64]) {
+    let printed: Vec<String> = ratios.iter().map(|r| format!("{r:.2}")).collect();
+    // what is printed decides, so that the table does not contradict itself
+    let met = printed.iter().all(|r| r.parse::<f64>().unwrap() <= most);
+    let verdict = if met { "met" } else { "missed" };
+    println!("| {name} | {most} | {} | {verdict} |", printed.join(", "));
+}
+
+fn target_table(runs: &[Vec<f64>], widths: [f64; 4]) {
+    table("Targets", &["Target", "At most", "Measured", ""]);
+    let ratio = |job: usize, other: usize| runs[job][0] / runs[job][other];
+    let tuned = "multiply-heavy against the tuned version";
+    target(
+        &format!("{tuned}, 32-bit Dst"),
+        1.1,
+        &[ratio(0, 2), ratio(1, 2)],
+    );
+    target(
+        &format!("{tuned}, BF16 Dst"),
+        1.1,
+        &[ratio(2, 2), ratio(3, 2)],
+    );
+    let second = "against the second program";
+    target(&format!("scalar-heavy {second}"), 1.5, &[ratio(4, 1)]);
+    target(
+        &format!("load-heavy {second}"),
+        1.5,
+        &[ratio(5, 1), ratio(6, 1)],
+    );
+    let widths_name = "16-bit rows against 32-bit ones";
+    target(&format!("multiplies, {widths_name}"), 1.2, &widths[..2]);
+    target(&format!("zeroing, {widths_name}"), 3.0, &widths[2..3]);
 }
 
 fn precheck_table(named: &[Named]) {
@@ -202,36 +237,28 @@ fn precheck_table(named: &[Named]) {
     }
 }
 
-fn growth_table() {
+fn growth_table(runs: &[Vec<f64>]) {
     table(
-        "Growth of the proved run with the job's size, in microseconds",
-        &["Job", "Size", "Bytes", "Time", "More for each further one"],
+        "Growth of the proved run with the job's size, in microseconds for each",
+        &["Each", "1/16 of the job", "1/8", "1/4", "1/2", "The job"],
     );
     let multiplies: Maker = |_, n| jobs::cleared_multiplies(Mode::Tf32, n);
-    let rows: [(&str, &str, Maker, [usize; 5]); 4] = [
-        (
-            "multiplies",
-            "MVMULs",
-            multiplies,
-            [62, 125, 250, 500, 1000],
-        ),
-        (
-            "scalars",
-            "instructions",
-            jobs::scalars,
-            [61, 122, 245, 490, 980],
-        ),
-        ("row loads", "rows", jobs::row_loads, [8, 16, 31, 62, 124]),
-        (
-            "register loads",
-            "registers",
-            jobs::register_loads,
-            [55, 111, 222, 445, 890],
-        ),
-    ];
-    for (name, unit, make, sizes) in rows {
-        growth(name, unit, make, sizes);
-    }
+    growth(
+        "MVMUL, cleared Src, of 1,000",
+        (1000, runs[0][0]),
+        multiplies,
+    );
+    growth(
+        "scalar instruction of 980",
+        (980, runs[4][0]),
+        jobs::scalars,
+    );
+    growth("row loaded of 124", (124, runs[5][0]), jobs::row_loads);
+    growth(
+        "register loaded of 890",
+        (890, runs[6][0]),
+        jobs::register_loads,
+    );
 }
 
 fn process_table(emulate: &str, named: &[Named]) {
@@ -258,13 +285,15 @@ fn main() -> ExitCode {
         return ExitCode::from(2);
     };
     let named = named_jobs();
-    run_table(&named);
+    let runs = run_table(&named);
     println!();
-    width_table();
+    let widths = width_table();
+    println!();
+    target_table(&runs, widths);
     println!();
     precheck_table(&named);
     println!();
-    growth_table();
+    growth_table(&runs);
     println!();
     process_table(emulate, &named);
     ExitCode::SUCCESS

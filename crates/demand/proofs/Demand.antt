@@ -39,13 +39,15 @@ use Rattle.lines.specs.Lines.{linesOf}
 use Rattle.lines.specs.Text.{refusedText}
 use Rattle.lines.specs.Printed.{printedBy, printedOf, printedText, textsOf}
 use Rattle.demand.specs.Breaks.{FirstBroken, issueFields}
-use Rattle.demand.specs.Demand.{jobNumbers, runNumbers, Ranks, Lengths, Unbroken, Demand3, Demand1, JobModes}
+use Rattle.demand.specs.Demand as demand
+use Rattle.demand.specs.Demand.{jobNumbers, runNumbers, Ranks, Lengths, Unbroken, Named, Demand3, Demand1, JobModes}
 use Rattle.demand.specs.WellShaped.{FirstWrong}
 use Rattle.demand.proofs.Agreement.{Agree, byRow, alone}
 use Rattle.demand.proofs.Widths.{first-width, wide}
 use Rattle.demand.proofs.Modes.{breaks-same, none-breaks-seven}
-use Rattle.demand.proofs.Passed.{counted, all-go, Ended, ended}
+use Rattle.demand.proofs.Passed.{counted, all-go, all-end, Ended, ended}
 use Rattle.demand.proofs.Shapes.{well-right, right-well, first-wrong, wrong-first}
+use Rattle.demand.proofs.Tagged.{issues-tagged, halves, bytes}
 use Rattle.demand.proofs.Steps.{sizes-of, lengths-of}
 use Rattle.demand.proofs.Refused.{none-breaks, first-breaks}
 use Rattle.demand.proofs.Rules.{ranks}
@@ -116,18 +118,17 @@ module _ (job : List ℕ) where
           let y : refusal.Shape ≡ r = cc in
           rw (← y)
 
-  -- and 1 only for a wrong shape
-  placed : (p : ℕ) → precheckOf job ≡ checked.Refused refusal.Shape p → FirstWrong job p
-  placed p e = go (shapeOf job) refl
+  -- by its shape, or by a rule
+  named-by : (r : Refusal) (p : ℕ) → precheckOf job ≡ checked.Refused r p → Named job r p
+  named-by r p e = go (shapeOf job) refl
     where
-      go : (w : Shape) → shapeOf job ≡ w → FirstWrong job p
-      go Right w =
-          let n = first-breaks job (fieldsFrom job 0) start (unset (jobWidth job)) 0 refusal.Shape p (sym (precheck-right job w) ∙ e) .1 in
-          absurd (false≢true n)
+      go : (w : Shape) → shapeOf job ≡ w → Named job r p
+      go Right w = demand.rule (right-well job w) (found w r p e)
       go (WrongAt q) w =
           let x = sym (precheck-wrong job q w) ∙ e in
           let y : q ≡ p = cc in
-          rw (← y) (wrong-first job q w)
+          let z : refusal.Shape ≡ r = cc in
+          demand.shape (sym z) (rw (← y) (wrong-first job q w))
 
   size : (s : State) → Lengths s → sized s ≡ true
   size s l = sized-of s (sizes-of s l)
@@ -141,11 +142,15 @@ module _ (job : List ℕ) where
         finishes = λ n e s l. finishes n e s (size s l);
         goes = λ n e s l.
             let x = precheck-passed job n e in all-go job (fieldsFrom job 0) start (unset (jobWidth job)) s 0 n (sound job 0) start-kept (x .1) (sizes-of s l);
+        ends = λ n e s l k x a b.
+            let y = precheck-passed job n e in
+            ap (λ (z : Ran). z .state) (run-passed job s (size s l) n e)
+            ∙ all-end job (fieldsFrom job 0) start (unset (jobWidth job)) s 0 n (sound job 0) start-kept (y .1) (sizes-of s l) k x a b;
+        issues = issues-tagged job;
         prints = λ n e s t l k. prints n e s t (size s l) (size t k);
         texts = λ n e s t l k. ap (map printedText) (prints n e s t (size s l) (size t k));
         misshapen = λ p h. precheck-wrong job p (first-wrong job p h);
-        placed = placed;
-        found = λ w. found (well-right job w);
+        found = named-by;
         named = tabled;
         refuses = λ r p e s l. run-refused job s (size s l) r p e;
         values = λ w other o. values-same job other (λ f. true) o;
@@ -211,6 +216,8 @@ module _ (job : List ℕ) where
   pub job-modes : JobModes job
   job-modes =
       record {
+        halves = halves job;
+        bytes = bytes job;
         width = λ w. first-width job (well-right job w);
         check = check-modes;
         run = λ q s r p o. ⊎-elim (λ n z. omega (arith, n, z)) (check-modes q r p) (refused s r p o .1);

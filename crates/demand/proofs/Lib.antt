@@ -1,6 +1,7 @@
 -- The proofs of demand 3, of demand 1 and of what the two Dst modes leave.
+mod Ranges
 mod Tags
-mod FieldBytes
+mod Cutting
 mod Shapes
 mod Rules
 mod MarksStay
@@ -13,4 +14,5 @@ mod Passed
 mod Refused
 mod Values
 pub mod Modes
+mod Tagged
 pub mod Demand

@@ -2,7 +2,7 @@
 use mathlib.Core.Path.{_≡_, refl, ap, ap₂, _∙_}
 use mathlib.Core.Bool.{true, cond}
 use mathlib.Core.List.{List, [], _∷_, _++_}
-use mathlib.Core.Option.{some}
+use mathlib.Core.Option.{Option, none, some}
 use Prim.Native.Nat.{ℕ, zero, suc, _+_}
 use native.Mathlib.Omega.{arith}
 use lib.ListN.{getD}
@@ -31,11 +31,11 @@ use Rattle.precheck.proofs.Checking.{check-passed}
 use Rattle.run.specs.Perform.{performed, controlOn, stepVerdict}
 use Rattle.run.proofs.Performs.{performed-sizes}
 use Rattle.run.specs.Run.{Ran, execute}
-use Rattle.run.proofs.Running.{done-control, execute-done}
+use Rattle.run.proofs.Running.{done-control, execute-next, execute-done}
 use Rattle.run.specs.declared.Outcome.the-variants as outcome
 use Rattle.lines.specs.Lines.{linesFrom}
 use Rattle.demand.specs.Breaks.{isIssue, issueFields}
-use Rattle.demand.specs.Met.{Met, metAt, Goes}
+use Rattle.demand.specs.Meetings.{Meeting, meetingAt, Goes, leaves}
 use Rattle.demand.proofs.Rules.{none-broken}
 use Rattle.demand.proofs.MarksStay.{Stays, stays, stays-on, marks-stay}
 use Rattle.walk.proofs.RecordKept.{control-kept}
@@ -118,8 +118,8 @@ module _ (job : List ℕ) where
       }
 
   pub all-go : (fs : List Field) (c : Control) (m : Marks) (s : State) (n q : ℕ) → EachField (Sound job) fs → inRange c ≡ true → checkFrom job fs c m n ≡ Passed q → Sizes s
-      → (k : ℕ) (x : Met) → metAt job fs c m s k ≡ some x → Goes x
-  unfolding metAt
+      → (k : ℕ) (x : Meeting) → meetingAt job fs c m s k ≡ some x → Goes x
+  unfolding meetingAt
   all-go [] c m s n q w r h z k x e = absurd (let y : _≡_ {A = ℕ} 0 1 = cc in omega arith)
   all-go (f ∷ fs) c m s n q w r h z k x e =
       let y = check-passed job f fs c m n q h in
@@ -131,7 +131,39 @@ module _ (job : List ℕ) where
       e
     where
       go : (k : ℕ) → Goes (record { field = f; control = c; marks = m; state = s })
-          → ((k : ℕ) → metAt job fs (controlOn job c (f .place) (f .kind) s) (fieldMarks c m (f .kind)) (performed job c (f .place) (f .kind) s) k ≡ some x → Goes x)
-          → metAt job (f ∷ fs) c m s k ≡ some x → Goes x
+          → ((k : ℕ) → meetingAt job fs (controlOn job c (f .place) (f .kind) s) (fieldMarks c m (f .kind)) (performed job c (f .place) (f .kind) s) k ≡ some x → Goes x)
+          → meetingAt job (f ∷ fs) c m s k ≡ some x → Goes x
       go zero here later e = let y : record { field = f; control = c; marks = m; state = s } ≡ x = cc in rw (← y) here
       go (suc k) here later e = later k e
+
+  -- where no field is left, the run leaves what it has
+  none-left : (fs : List Field) (b c : Control) (m : Marks) (s : State) (n : ℕ) → meetingAt job fs b m s zero ≡ none → execute job fs c s n .state ≡ s
+  unfolding meetingAt execute
+  none-left [] b c m s n o = refl
+  none-left (f ∷ fs) b c m s n o = absurd (let y : _≡_ {A = ℕ} 0 1 = cc in omega arith)
+
+  -- what the last field leaves is what the run leaves
+  pub all-end : (fs : List Field) (c : Control) (m : Marks) (s : State) (n q : ℕ) → EachField (Sound job) fs → inRange c ≡ true → checkFrom job fs c m n ≡ Passed q → Sizes s
+      → (k : ℕ) (x : Meeting) → meetingAt job fs c m s k ≡ some x → meetingAt job fs c m s (suc k) ≡ none → execute job fs c s n .state ≡ leaves job x
+  unfolding meetingAt
+  all-end [] c m s n q w r h z k x e o = absurd (let y : _≡_ {A = ℕ} 0 1 = cc in omega arith)
+  all-end (f ∷ fs) c m s n q w r h z k x e o =
+      let y = check-passed job f fs c m n q h in
+      let v = field-done c m r (jobWidth job) s s (self (jobWidth job) m s z) (getD job (f .place) 0) (payloadAt job (f .place)) (f .kind) (w .0 .says) (y .0) in
+      ap (λ (a : Ran). a .state) (execute-next job f fs c s n v)
+      ∙ go k
+      (λ k. rw (← done-control job c (f .place) (f .kind) s v) at
+      (all-end fs (fieldControl job c (f .place) (f .kind)) (fieldMarks c m (f .kind)) (performed job c (f .place) (f .kind) s) (n + issueOf (f .kind)) q (w .1)
+      (control-kept job c f r (w .0)) (y .1) (performed-sizes job c (f .place) (f .kind) s z) k x))
+      e o
+    where
+      go : (k : ℕ)
+          → ((k : ℕ) → meetingAt job fs (controlOn job c (f .place) (f .kind) s) (fieldMarks c m (f .kind)) (performed job c (f .place) (f .kind) s) k ≡ some x
+          → meetingAt job fs (controlOn job c (f .place) (f .kind) s) (fieldMarks c m (f .kind)) (performed job c (f .place) (f .kind) s) (suc k) ≡ none
+          → execute job fs (controlOn job c (f .place) (f .kind) s) (performed job c (f .place) (f .kind) s) (n + issueOf (f .kind)) .state ≡ leaves job x)
+          → meetingAt job (f ∷ fs) c m s k ≡ some x → meetingAt job (f ∷ fs) c m s (suc k) ≡ none
+          → execute job fs (controlOn job c (f .place) (f .kind) s) (performed job c (f .place) (f .kind) s) (n + issueOf (f .kind)) .state ≡ leaves job x
+      go zero later e o =
+          let y : record { field = f; control = c; marks = m; state = s } ≡ x = cc in
+          none-left fs _ _ (fieldMarks c m (f .kind)) (performed job c (f .place) (f .kind) s) _ o ∙ ap (leaves job) y
+      go (suc k) later e o = later k e o

@@ -29,46 +29,46 @@ use Rattle.job.specs.declared.stages.Placed.the-variants as placed
 use Rattle.job.proofs.Walk.{place-at, fields-end, fields-step}
 use Rattle.job.proofs.Shaped.{shape-on, shape-wrong, shape-end}
 use Rattle.demand.specs.WellShaped as shape
-use Rattle.demand.specs.WellShaped.{Bytes, bytesOf, joined, Settles, Prints, Acts, EachOf, WellShaped, InPlace, AllInPlace, FirstWrong}
-use Rattle.demand.proofs.FieldBytes.{field-here, here, cut}
+use Rattle.demand.specs.WellShaped.{FieldBytes, bytesOf, joined, Settles, Prints, Acts, EachOf, WellShaped, InPlace, AllInPlace, FirstWrong}
+use Rattle.demand.proofs.Cutting.{field-here, here, cut}
 use Rattle.demand.proofs.Tags.{Acting, Printing, found, settles-kind, acts-kind, prints-kind, kind-settles, kind-acts, kind-prints}
 
 differ : {A : Type 0} → _≡_ {A = ℕ} 0 1 → A
 differ z = absurd (omega arith)
 
-abbrev Silent : Width → Bytes → Type 0
+abbrev Silent : Width → FieldBytes → Type 0
 Silent w g = Prints w g → ⊥
 
 -- ---- lists
 
-module _ (P : Bytes → Type 0) where
-  each-snoc : (fs : List Bytes) (f : Bytes) → EachOf P fs → P f → EachOf P (fs ++ f ∷ [])
+module _ (P : FieldBytes → Type 0) where
+  each-snoc : (fs : List FieldBytes) (f : FieldBytes) → EachOf P fs → P f → EachOf P (fs ++ f ∷ [])
   each-snoc [] f h q = (q, tt)
   each-snoc (g ∷ fs) f h q = (h .0, each-snoc fs f (h .1) q)
 
-  each-front : (fs gs : List Bytes) → EachOf P (fs ++ gs) → EachOf P fs
+  each-front : (fs gs : List FieldBytes) → EachOf P (fs ++ gs) → EachOf P fs
   each-front [] gs h = tt
   each-front (g ∷ fs) gs h = (h .0, each-front fs gs (h .1))
 
-  each-back : (fs gs : List Bytes) → EachOf P (fs ++ gs) → EachOf P gs
+  each-back : (fs gs : List FieldBytes) → EachOf P (fs ++ gs) → EachOf P gs
   each-back [] gs h = h
   each-back (g ∷ fs) gs h = each-back fs gs (h .1)
 
-some-snoc : (fs : List Bytes) (f : Bytes) → 1 ≤ length (fs ++ f ∷ [])
+some-snoc : (fs : List FieldBytes) (f : FieldBytes) → 1 ≤ length (fs ++ f ∷ [])
 some-snoc fs f = rw length-append (omega arith)
 
-joined-append : (fs gs : List Bytes) → joined (fs ++ gs) ≡ joined fs ++ joined gs
+joined-append : (fs gs : List FieldBytes) → joined (fs ++ gs) ≡ joined fs ++ joined gs
 unfolding joined
 joined-append [] gs = refl
 joined-append (f ∷ fs) gs = ap (λ (l : List ℕ). bytesOf f ++ l) (joined-append fs gs) ∙ sym (append-assoc (bytesOf f) (joined fs) (joined gs))
 
-joined-snoc : (fs : List Bytes) (f : Bytes) → joined (fs ++ f ∷ []) ≡ joined fs ++ bytesOf f
+joined-snoc : (fs : List FieldBytes) (f : FieldBytes) → joined (fs ++ f ∷ []) ≡ joined fs ++ bytesOf f
 unfolding joined
 joined-snoc fs f = joined-append fs (f ∷ []) ∙ ap (λ (l : List ℕ). joined fs ++ l) (append-nil (bytesOf f))
 
 -- ---- how far fields that are right and in place have come
 
-abbrev At : Width → List Bytes → Stage → Type 0
+abbrev At : Width → List FieldBytes → Stage → Type 0
 At w before stage.Opening = before ≡ []
 At w before stage.Acting = (1 ≤ length before) × EachOf (Silent w) before
 At w before stage.Printing = (1 ≤ length before) × (EachOf (Silent w) before → ⊥)
@@ -98,7 +98,7 @@ printing-in (kind.Prints o) a = (refl, refl)
 printing-in (kind.Wrong c) a = absurd a
 
 -- the two ways to hold a field against those before it: by its place among them, and by the stage
-module _ (w : Width) (before : List Bytes) (f : Bytes) where
+module _ (w : Width) (before : List FieldBytes) (f : FieldBytes) where
   settles-silent : Settles f → Silent w f
   settles-silent h p = subst Printing (settles-kind w f h) (prints-kind w f p)
 
@@ -163,17 +163,17 @@ module _ (w : Width) (before : List Bytes) (f : Bytes) where
 -- ---- fields in place are settings, fields that act, outputs
 
 module _ (w : Width) where
-  place-printing : (fs before : List Bytes) → 1 ≤ length before → EachOf (Prints w) fs → AllInPlace w before fs
+  place-printing : (fs before : List FieldBytes) → 1 ≤ length before → EachOf (Prints w) fs → AllInPlace w before fs
   place-printing [] before l h = tt
   place-printing (f ∷ fs) before l h = (shape.printing l (h .0), place-printing fs (before ++ f ∷ []) (some-snoc before f) (h .1))
 
-  place-acting : (acting outputs before : List Bytes) → 1 ≤ length before → EachOf (Silent w) before → EachOf (Acts w) acting → EachOf (Prints w) outputs
+  place-acting : (acting outputs before : List FieldBytes) → 1 ≤ length before → EachOf (Silent w) before → EachOf (Acts w) acting → EachOf (Prints w) outputs
       → AllInPlace w before (acting ++ outputs)
   place-acting [] outputs before l n h p = place-printing outputs before l p
   place-acting (f ∷ acting) outputs before l n h p =
       (shape.acting l n (h .0), place-acting acting outputs (before ++ f ∷ []) (some-snoc before f) (each-snoc (Silent w) before f n (acts-silent w before f (h .0))) (h .1) p)
 
-  sort-printing : (fs before : List Bytes) → 1 ≤ length before → (EachOf (Silent w) before → ⊥) → AllInPlace w before fs → EachOf (Prints w) fs
+  sort-printing : (fs before : List FieldBytes) → 1 ≤ length before → (EachOf (Silent w) before → ⊥) → AllInPlace w before fs → EachOf (Prints w) fs
   sort-printing [] before l n h = tt
   sort-printing (f ∷ fs) before l n h =
       (go (h .0), sort-printing fs (before ++ f ∷ []) (some-snoc before f) (λ q. n (each-front (Silent w) before (f ∷ []) q)) (h .1))
@@ -183,14 +183,14 @@ module _ (w : Width) where
       go (shape.acting l q a) = absurd (n q)
       go (shape.printing l p) = p
 
-  record Sorted (fs : List Bytes) : Type 0 where
-    acting : List Bytes
-    outputs : List Bytes
+  record Sorted (fs : List FieldBytes) : Type 0 where
+    acting : List FieldBytes
+    outputs : List FieldBytes
     whole : fs ≡ acting ++ outputs
     acts : EachOf (Acts w) acting
     prints : EachOf (Prints w) outputs
 
-  sort-acting : (fs before : List Bytes) → 1 ≤ length before → EachOf (Silent w) before → AllInPlace w before fs → Sorted fs
+  sort-acting : (fs before : List FieldBytes) → 1 ≤ length before → EachOf (Silent w) before → AllInPlace w before fs → Sorted fs
   sort-acting [] before l n h = record { acting = []; outputs = []; whole = refl; acts = tt; prints = tt }
   sort-acting (f ∷ fs) before l n h =
       go (h .0) (λ a. sort-acting fs (before ++ f ∷ []) (some-snoc before f) (each-snoc (Silent w) before f n (acts-silent w before f a)) (h .1))
@@ -199,7 +199,7 @@ module _ (w : Width) where
       go (shape.first e s) rest = absurd (empty w before f e l)
       go (shape.acting l q a) rest =
           let i = rest a in
-          record { acting = f ∷ i .acting; outputs = i .outputs; whole = ap (λ (l : List Bytes). f ∷ l) (i .whole); acts = (a, i .acts); prints = i .prints }
+          record { acting = f ∷ i .acting; outputs = i .outputs; whole = ap (λ (l : List FieldBytes). f ∷ l) (i .whole); acts = (a, i .acts); prints = i .prints }
       go (shape.printing l p) rest =
           record {
             acting = [];
@@ -209,11 +209,11 @@ module _ (w : Width) where
             prints = (p, sort-printing fs (before ++ f ∷ []) (some-snoc before f) (λ q. each-back (Silent w) before (f ∷ []) q .0 p) (h .1));
           }
 
-  all-silent : (fs : List Bytes) → EachOf (Acts w) fs → EachOf (Silent w) fs
+  all-silent : (fs : List FieldBytes) → EachOf (Acts w) fs → EachOf (Silent w) fs
   all-silent [] h = tt
   all-silent (f ∷ fs) h = (acts-silent w [] f (h .0), all-silent fs (h .1))
 
-  all-snoc : (fs before : List Bytes) (f : Bytes) → AllInPlace w before fs → InPlace w (before ++ fs) f → AllInPlace w before (fs ++ f ∷ [])
+  all-snoc : (fs before : List FieldBytes) (f : FieldBytes) → AllInPlace w before fs → InPlace w (before ++ fs) f → AllInPlace w before (fs ++ f ∷ [])
   all-snoc [] before f h i = (rw append-nil at i, tt)
   all-snoc (g ∷ fs) before f h i = (h .0, all-snoc fs (before ++ g ∷ []) f (h .1) (rw append-snoc i))
 
@@ -223,21 +223,21 @@ module _ (job : List ℕ) where
   abbrev w : Width
   w = jobWidth job
 
-  abbrev from : List Bytes → ℕ
+  abbrev pub from : List FieldBytes → ℕ
   from before = length (joined before)
 
-  abbrev onward : List Bytes → Stage → Shape
+  abbrev onward : List FieldBytes → Stage → Shape
   onward before s = shapeFrom (length job) (fieldsFrom job (from before)) s
 
-  module _ (before : List Bytes) (f : Bytes) (rest : List ℕ) (e : job ≡ joined before ++ (bytesOf f ++ rest)) where
-    field-after : fieldAt job (from before) ≡ wholeField (from before) (found w f) (from (before ++ f ∷ []))
+  module _ (before : List FieldBytes) (f : FieldBytes) (rest : List ℕ) (e : job ≡ joined before ++ (bytesOf f ++ rest)) where
+    pub field-after : fieldAt job (from before) ≡ wholeField (from before) (found w f) (from (before ++ f ∷ []))
     field-after =
         let n : from before + 3 + length (f .payload) ≡ from (before ++ f ∷ []) = rw (joined-snoc before f, length-append (joined before) (bytesOf f)) (omega arith) in
         subst (λ (j : List ℕ). fieldAt j (from before) ≡ wholeField (from before) (readKind (jobWidth j) (f .tag) (f .payload)) (from before + 3 + length (f .payload))) (sym e)
         (field-here (joined before) f rest)
         ∙ ap (wholeField (from before) (found w f)) n
 
-    inside : from before < length job
+    pub inside : from before < length job
     inside = let z = ap length e ∙ length-append (joined before) (bytesOf f ++ rest) in omega (arith, z)
 
     turn : (s next : Stage) → placed s (found w f) ≡ placed.InPlace next → onward before s ≡ onward (before ++ f ∷ []) next
@@ -246,20 +246,20 @@ module _ (job : List ℕ) where
         (fields-step job (from before) inside ∙ ap (λ (g : Field). g ∷ fieldsFrom job (g .next)) field-after)
         ∙ shape-on (length job) (wholeField (from before) (found w f) (from (before ++ f ∷ []))) _ s next p
 
-    after : job ≡ joined (before ++ f ∷ []) ++ rest
+    pub after : job ≡ joined (before ++ f ∷ []) ++ rest
     after = e ∙ sym (append-assoc (joined before) (bytesOf f) rest) ∙ ap (λ (l : List ℕ). l ++ rest) (sym (joined-snoc before f))
 
   -- fields that are in place lead from one stage to another
-  record Through (before fs : List Bytes) (s : Stage) : Type 0 where
+  record Through (before fs : List FieldBytes) (s : Stage) : Type 0 where
     next : Stage
     at : At w (before ++ fs) next
     same : onward before s ≡ onward (before ++ fs) next
 
-  through : (fs before : List Bytes) (s : Stage) (rest : List ℕ) → job ≡ joined before ++ (joined fs ++ rest) → At w before s → AllInPlace w before fs → Through before fs s
+  through : (fs before : List FieldBytes) (s : Stage) (rest : List ℕ) → job ≡ joined before ++ (joined fs ++ rest) → At w before s → AllInPlace w before fs → Through before fs s
   unfolding joined
   through [] before s rest e a h =
       let z = sym (append-nil before) in
-      record { next = s; at = subst (λ (l : List Bytes). At w l s) z a; same = ap (λ (l : List Bytes). onward l s) z }
+      record { next = s; at = subst (λ (l : List FieldBytes). At w l s) z a; same = ap (λ (l : List FieldBytes). onward l s) z }
   through (f ∷ fs) before s rest e a h =
       let o = on w before f s a (h .0) in
       let q : job ≡ joined before ++ (bytesOf f ++ (joined fs ++ rest)) = e ∙ ap (λ (l : List ℕ). joined before ++ l) (append-assoc (bytesOf f) (joined fs) rest) in
@@ -268,15 +268,15 @@ module _ (job : List ℕ) where
       record {
         next = i .next;
         at = rw z at (i .at);
-        same = turn before f (joined fs ++ rest) q s (o .next) (o .here) ∙ i .same ∙ ap (λ (l : List Bytes). onward l (i .next)) z;
+        same = turn before f (joined fs ++ rest) q s (o .next) (o .here) ∙ i .same ∙ ap (λ (l : List FieldBytes). onward l (i .next)) z;
       }
 
   -- from the first field to the last
-  whole-through : (fs : List Bytes) → job ≡ joined fs → AllInPlace w [] fs → Through [] fs stage.Opening
+  whole-through : (fs : List FieldBytes) → job ≡ joined fs → AllInPlace w [] fs → Through [] fs stage.Opening
   unfolding joined
   whole-through fs e h = through fs [] stage.Opening [] (e ∙ sym (append-nil (joined fs))) refl h
 
-  at-end : (fs : List Bytes) (s : Stage) → job ≡ joined fs → onward fs s ≡ shapeAtEnd (length job) s
+  at-end : (fs : List FieldBytes) (s : Stage) → job ≡ joined fs → onward fs s ≡ shapeAtEnd (length job) s
   at-end fs s e =
       let n : length job ≤ from fs = let z = ap length e in omega (arith, z) in
       ap (λ (l : List Field). shapeFrom (length job) l s) (fields-end job (from fs) n) ∙ shape-end (length job) s
@@ -295,7 +295,7 @@ module _ (job : List ℕ) where
       let t = whole-through fs (h .whole) placing in
       shape-short (h .short) ∙ t .same ∙ at-end fs (t .next) (h .whole) ∙ go (t .next) (t .at)
     where
-      loud : (l : List Bytes) → 1 ≤ length l → EachOf (Prints w) l → EachOf (Silent w) l → ⊥
+      loud : (l : List FieldBytes) → 1 ≤ length l → EachOf (Prints w) l → EachOf (Silent w) l → ⊥
       loud [] some p q = absurd (omega arith)
       loud (f ∷ l) some p q = q .0 (p .0)
 
@@ -305,17 +305,17 @@ module _ (job : List ℕ) where
       go stage.Printing a = refl
 
   -- a field that is in place by the stage is whole, and begins the bytes there
-  record Next (before : List Bytes) (s next : Stage) (rest : List ℕ) : Type 0 where
-    f : Bytes
+  record Next (before : List FieldBytes) (s next : Stage) (rest : List ℕ) : Type 0 where
+    f : FieldBytes
     more : List ℕ
     begins : rest ≡ bytesOf f ++ more
     placing : InPlace w before f
     here : placed s (found w f) ≡ placed.InPlace next
 
-  behind : (before : List Bytes) (rest : List ℕ) → job ≡ joined before ++ rest → drop (from before) job ≡ rest
+  behind : (before : List FieldBytes) (rest : List ℕ) → job ≡ joined before ++ rest → drop (from before) job ≡ rest
   behind before rest e = ap (drop (from before)) e ∙ drop-append-seam (joined before) rest
 
-  next-field : (before : List Bytes) (rest : List ℕ) (s next : Stage) → job ≡ joined before ++ rest → At w before s
+  next-field : (before : List FieldBytes) (rest : List ℕ) (s next : Stage) → job ≡ joined before ++ rest → At w before s
       → placed s (fieldAt job (from before) .kind) ≡ placed.InPlace next → Next before s next rest
   unfolding fieldAt
   next-field before rest s next e a p =
@@ -332,12 +332,12 @@ module _ (job : List ℕ) where
       })
       (λ b. let q : placed s (kind.Wrong CutOff) ≡ placed.InPlace next = rw b at p in differ (cc))
 
-  starts : (before : List Bytes) (rest : List ℕ) → job ≡ joined before ++ rest → 1 ≤ length rest → from before < length job
+  starts : (before : List FieldBytes) (rest : List ℕ) → job ≡ joined before ++ rest → 1 ≤ length rest → from before < length job
   starts before rest e l = let z = ap length e ∙ length-append (joined before) rest in omega (arith, z)
 
   -- no field that is in place begins the bytes there, so the one found is wrong
-  wrong-here : (before : List Bytes) (rest : List ℕ) (s : Stage) → job ≡ joined before ++ rest → 1 ≤ length rest → At w before s
-      → ((f : Bytes) (more : List ℕ) → rest ≡ bytesOf f ++ more → InPlace w before f → ⊥) → onward before s ≡ WrongAt (from before)
+  wrong-here : (before : List FieldBytes) (rest : List ℕ) (s : Stage) → job ≡ joined before ++ rest → 1 ≤ length rest → At w before s
+      → ((f : FieldBytes) (more : List ℕ) → rest ≡ bytesOf f ++ more → InPlace w before f → ⊥) → onward before s ≡ WrongAt (from before)
   wrong-here before rest s e l a none =
       let at = from before in
       let g = fieldAt job at in
@@ -369,7 +369,7 @@ module _ (job : List ℕ) where
 
   -- the fields of a right shape
   record Whole : Type 0 where
-    fs : List Bytes
+    fs : List FieldBytes
     bytes : job ≡ joined fs
     order : AllInPlace w [] fs
     some : EachOf (Silent w) fs → ⊥
@@ -379,13 +379,13 @@ module _ (job : List ℕ) where
   Said (WrongAt place) = FirstWrong job place
 
   module _ (short : length job ≤ 8192) where
-    said-end : (before : List Bytes) (s : Stage) → job ≡ joined before → At w before s → AllInPlace w [] before → Said (shapeAtEnd (length job) s)
+    said-end : (before : List FieldBytes) (s : Stage) → job ≡ joined before → At w before s → AllInPlace w [] before → Said (shapeAtEnd (length job) s)
     said-end before stage.Opening e a h = shape.noOutput short before e h (rw a tt) refl
     said-end before stage.Acting e a h = shape.noOutput short before e h (a .1) refl
     said-end before stage.Printing e a h = record { fs = before; bytes = e; order = h; some = a .1 }
 
     -- a field that is wrong by the stage
-    said-wrong : (before : List Bytes) (rest : List ℕ) (s : Stage) (c : Cause) → job ≡ joined before ++ rest → 1 ≤ length rest → At w before s → AllInPlace w [] before
+    said-wrong : (before : List FieldBytes) (rest : List ℕ) (s : Stage) (c : Cause) → job ≡ joined before ++ rest → 1 ≤ length rest → At w before s → AllInPlace w [] before
         → placed s (fieldAt job (from before) .kind) ≡ placed.NotRight c → FirstWrong job (from before)
     said-wrong before rest s c e l a h p =
         shape.wrongField short before rest e l h
@@ -399,14 +399,14 @@ module _ (job : List ℕ) where
     -- from a place on, with at most n bytes left
     abbrev SaidFrom : ℕ → Type 0
     SaidFrom n =
-        (before : List Bytes) (rest : List ℕ) (s : Stage) → length rest ≤ n → job ≡ joined before ++ rest → At w before s → AllInPlace w [] before → Said (onward before s)
+        (before : List FieldBytes) (rest : List ℕ) (s : Stage) → length rest ≤ n → job ≡ joined before ++ rest → At w before s → AllInPlace w [] before → Said (onward before s)
 
-    said-none : (before : List Bytes) (s : Stage) → job ≡ joined before ++ [] → At w before s → AllInPlace w [] before → Said (onward before s)
+    said-none : (before : List FieldBytes) (s : Stage) → job ≡ joined before ++ [] → At w before s → AllInPlace w [] before → Said (onward before s)
     said-none before s e a h =
         let q : job ≡ joined before = e ∙ append-nil (joined before) in
         subst Said (sym (at-end before s q)) (said-end before s q a h)
 
-    said-some : (n : ℕ) → SaidFrom n → (before : List Bytes) (rest : List ℕ) (s : Stage) → 1 ≤ length rest → length rest ≤ suc n → job ≡ joined before ++ rest → At w before s
+    said-some : (n : ℕ) → SaidFrom n → (before : List FieldBytes) (rest : List ℕ) (s : Stage) → 1 ≤ length rest → length rest ≤ suc n → job ≡ joined before ++ rest → At w before s
         → AllInPlace w [] before → Said (onward before s)
     said-some n further before rest s some l e a h =
         subst (λ (fs : List Field). Said (shapeFrom (length job) fs s)) (sym (fields-step job (from before) (starts before rest e some)))
@@ -457,7 +457,7 @@ module _ (job : List ℕ) where
   well : length job ≤ 8192 → (x : Whole) → WellShaped job
   well short x = go (x .fs) (x .bytes) (x .order) (x .some)
     where
-      go : (fs : List Bytes) → job ≡ joined fs → AllInPlace w [] fs → (EachOf (Silent w) fs → ⊥) → WellShaped job
+      go : (fs : List FieldBytes) → job ≡ joined fs → AllInPlace w [] fs → (EachOf (Silent w) fs → ⊥) → WellShaped job
       go [] e h n = absurd (n tt)
       go (f ∷ fs) e h n = first (h .0)
         where
@@ -472,14 +472,14 @@ module _ (job : List ℕ) where
                 settings = f;
                 acting = i .acting;
                 outputs = i .outputs;
-                whole = e ∙ ap (λ (l : List Bytes). joined (f ∷ l)) (i .whole);
+                whole = e ∙ ap (λ (l : List FieldBytes). joined (f ∷ l)) (i .whole);
                 settles = s;
                 acts = i .acts;
                 prints = i .prints;
                 some = some (i .outputs) (λ q. n (silent, rw (i .whole, q, append-nil (i .acting)) (all-silent w (i .acting) (i .acts))));
               }
             where
-              some : (l : List Bytes) → (l ≡ [] → ⊥) → 1 ≤ length l
+              some : (l : List FieldBytes) → (l ≡ [] → ⊥) → 1 ≤ length l
               some [] d = absurd (d refl)
               some (g ∷ l) d = omega arith
 

@@ -23,6 +23,8 @@ use Rattle.cells.proofs.Sizes.{Sizes, sizes, sized-of, unsized}
 use Rattle.step.specs.Step.{verdictOf, steppedOf, stateOf}
 use Rattle.demand.specs.Breaks.{brokenRule}
 use Rattle.demand.specs.Demand.{stepNumbers, Lengths, StepDemand1}
+use Rattle.demand.specs.RecordRange.{RecordIn}
+use Rattle.demand.proofs.Ranges.{record-ok, record-in}
 use Rattle.demand.proofs.Rules.{never, none-broken, rising, Lowest, lowest-is, lowest-numbered}
 
 differ : {A : Type 0} → _≡_ {A = ℕ} 0 1 → A
@@ -79,19 +81,19 @@ module _ (c : Control) (t w : ℕ) (s : State) where
   unfolding verdictOf
   nine h = simp (unsized s (λ z. h (lengths-of s z)))
 
-  in-bounds : (inRange c && ltb t threadCount) ≡ true → (inRange c ≡ true) × (t < 3)
-  in-bounds e = let b = both (inRange c) (ltb t threadCount) e in (b .0, ltb-true t threadCount (b .1))
+  in-bounds : (inRange c && ltb t threadCount) ≡ true → RecordIn c × (t < 3)
+  in-bounds e = let b = both (inRange c) (ltb t threadCount) e in (record-in c (b .0), ltb-true t threadCount (b .1))
 
-  out-of-bounds : ((inRange c ≡ true) × (t < 3) → ⊥) → (inRange c && ltb t threadCount) ≡ false
+  out-of-bounds : (RecordIn c × (t < 3) → ⊥) → (inRange c && ltb t threadCount) ≡ false
   out-of-bounds h = split (inRange c && ltb t threadCount) (λ e. absurd (h (in-bounds e))) (λ e. e)
 
-  one : Lengths s → ((inRange c ≡ true) × (t < 3) → ⊥) → verdictOf c t w s ≡ Refused Shape
+  one : Lengths s → (RecordIn c × (t < 3) → ⊥) → verdictOf c t w s ≡ Refused Shape
   unfolding verdictOf
   one l h = simp (sized-of s (sizes-of s l), out-of-bounds h)
 
-  by-rules : Lengths s → inRange c ≡ true → t < 3 → verdictOf c t w s ≡ judgement c t w
+  by-rules : Lengths s → RecordIn c → t < 3 → verdictOf c t w s ≡ judgement c t w
   unfolding verdictOf
-  by-rules l r h = simp (sized-of s (sizes-of s l), r, lt-ltb t threadCount h)
+  by-rules l r h = simp (sized-of s (sizes-of s l), record-ok c r, lt-ltb t threadCount h)
 
   -- the rules have neither 9 nor 1
   not-judged : (r : Refusal) → oneOf (numberOf r) (2 ∷ 3 ∷ 4 ∷ 5 ∷ 6 ∷ 7 ∷ []) ≡ false → judgement c t w ≢ Refused r
@@ -103,9 +105,9 @@ module _ (c : Control) (t w : ℕ) (s : State) where
   not-nine l e =
       split (inRange c && ltb t threadCount)
       (λ b. let q = in-bounds b in not-judged StateLength refl (sym (by-rules l (q .0) (q .1)) ∙ e))
-      (λ b. let q : Refused Shape ≡ Refused StateLength = sym (one l (λ z. false≢true (sym b ∙ rw (z .0, lt-ltb t threadCount (z .1))))) ∙ e in differ (cc))
+      (λ b. let q : Refused Shape ≡ Refused StateLength = sym (one l (λ z. false≢true (sym b ∙ rw (record-ok c (z .0), lt-ltb t threadCount (z .1))))) ∙ e in differ (cc))
 
-  not-one : inRange c ≡ true → t < 3 → verdictOf c t w s ≢ Refused Shape
+  not-one : RecordIn c → t < 3 → verdictOf c t w s ≢ Refused Shape
   unfolding verdictOf
   not-one r h e =
       split (sized s)
@@ -122,12 +124,14 @@ module _ (c : Control) (t w : ℕ) (s : State) where
       go false range e = absurd (never e)
 
   pub step-demand1 : StepDemand1 c t w s
-  unfolding steppedOf stateOf
+  unfolding steppedOf stateOf stepAnswer
   step-demand1 =
       record {
         kept = λ r e. rw e;
         record-kept = λ r e. rw e;
         tabled = tabled;
+        answered = λ r e. rw e;
+        answered-done = λ e. rw e;
         nine = nine;
         not-nine = not-nine;
         one = one;

@@ -28,16 +28,9 @@ use Rattle.job.specs.declared.Write.the-variants as write
 use Rattle.job.specs.declared.Output.{Output}
 use Rattle.job.specs.declared.Output.the-variants as output
 use Rattle.job.proofs.Says.{fileNumber, WriteSays, OutputSays, Says, says}
+use Rattle.demand.proofs.Ranges.{upto, least}
 use Rattle.demand.specs.WellShaped as shape
-use Rattle.demand.specs.WellShaped.{Bytes, SlotIn, ThreadIn, SettingsIn, RowsIn, ValuesIn, FileIn, LoadRowsIn, RegisterIn, HandOverIn, IssueIn, OutputRowsIn, ZeroRowsIn, Settles, Prints, Acts}
-
--- ---- a bound as a test
-
-upto : {n : ℕ} (k : ℕ) → n ≤ k → ltb n (suc k) ≡ true
-upto {n} k h = lt-ltb n (suc k) (omega arith)
-
-least : {n : ℕ} (k : ℕ) → ltb n (suc k) ≡ true → n ≤ k
-least {n} k e = omega (arith, ltb-true n (suc k) e)
+use Rattle.demand.specs.WellShaped.{FieldBytes, SlotIn, ThreadIn, SettingsIn, RowsInside, ValuesIn, FileIn, LoadRowsIn, RegisterNamed, HandOverIn, IssueIn, OutputRowsIn, ZeroRowsIn, Settles, Prints, Acts}
 
 one-of-two : (n : ℕ) → n ≤ 1 → (n ≡ 0 → ⊥) → eqb n 1 ≡ true
 one-of-two n h d = eq-eqb n 1 (omega arith)
@@ -49,15 +42,15 @@ module _ (p : List ℕ) where
   unfolding slotOf
   slot-right b h =
       all-of (slotTests (slotOf p b))
-      (upto 63 (h .a), (upto 63 (h .b-step), (upto 1023 (h .dst), (upto 3 (h .fidelity), tt))))
+      (upto 63 (h .srca), (upto 63 (h .srcb), (upto 1023 (h .dst), (upto 3 (h .fidelity), tt))))
 
   slot-in : (b : ℕ) → slotOk (slotOf p b) ≡ true → SlotIn p b
   unfolding slotOf
   slot-in b e =
       let t = each-of (slotTests (slotOf p b)) e in
       record {
-        a = least 63 (t .0);
-        b-step = least 63 (t .1 .0);
+        srca = least 63 (t .0);
+        srcb = least 63 (t .1 .0);
         dst = least 1023 (t .1 .1 .0);
         fidelity = least 3 (t .1 .1 .1 .0);
       }
@@ -133,18 +126,18 @@ taken P b x y e h = rw e h
 passed : (P : Kind → Type 0) (b : Bool) (x y : Kind) → b ≡ false → P y → P (cond b x y)
 passed P b x y e h = rw e h
 
-rows-right : (w : Width) (first count n : ℕ) → RowsIn first count n (rowCount w) → all (dstRowsTests w (span first count) n) ≡ true
+rows-right : (w : Width) (first count n : ℕ) → RowsInside first count n (rowCount w) → all (dstRowsTests w (span first count) n) ≡ true
 rows-right w first count n h =
     all-of (dstRowsTests w (span first count) n) (le-leb _ _ (h .some), (le-leb _ _ (h .most), (le-leb _ _ (h .inside), tt)))
 
-rows-in : (w : Width) (rows : Span) (n : ℕ) → Each (dstRowsTests w rows n) → RowsIn (rows .first) (rows .count) n (rowCount w)
+rows-in : (w : Width) (rows : Span) (n : ℕ) → Each (dstRowsTests w rows n) → RowsInside (rows .first) (rows .count) n (rowCount w)
 rows-in w rows n e = record { some = leb-true _ _ (e .0); most = leb-true _ _ (e .1 .0); inside = leb-true _ _ (e .1 .1 .0) }
 
-register-right : (p : List ℕ) (n : ℕ) → RegisterIn p n → all (registerTests (getD p 0 0) (getD p 1 0)) ≡ true
+register-right : (p : List ℕ) (n : ℕ) → RegisterNamed p n → all (registerTests (getD p 0 0) (getD p 1 0)) ≡ true
 register-right p n h =
     all-of (registerTests (getD p 0 0) (getD p 1 0)) (upto 2 (h .thread), (upto 63 (h .register), tt))
 
-register-in : (p : List ℕ) (n t r : ℕ) → length p ≡ n → t ≡ getD p 0 0 → r ≡ getD p 1 0 → Each (registerTests t r) → RegisterIn p n
+register-in : (p : List ℕ) (n t r : ℕ) → length p ≡ n → t ≡ getD p 0 0 → r ≡ getD p 1 0 → Each (registerTests t r) → RegisterNamed p n
 register-in p n t r l e f h =
     record { long = l; thread = omega (arith, ltb-true t threadCount (h .0), e); register = omega (arith, ltb-true r threadRegisters (h .1 .0), f) }
 
@@ -177,7 +170,7 @@ module _ (w : Width) (p : List ℕ) where
   dst-in Bits32 n e q = absurd (let z : _≡_ {A = ℕ} 0 1 = cc in omega arith)
   dst-in Bits16 n e q = values-in n (2 ^ 16) e
 
-  load-src : (file : File) (n : ℕ) → length p ≡ 3 + 64 * n → RowsIn (le2 p 1) n 64 64 → ValuesIn p n (2 ^ 19) → Acting (loadSrc file (loadSpan p) p)
+  load-src : (file : File) (n : ℕ) → length p ≡ 3 + 64 * n → RowsInside (le2 p 1) n 64 64 → ValuesIn p n (2 ^ 19) → Acting (loadSrc file (loadSpan p) p)
   unfolding loadSrc
   load-src file n l r v =
       let c = counted n l in
@@ -185,7 +178,7 @@ module _ (w : Width) (p : List ℕ) where
       taken Acting (all (srcLoadTests (loadSpan p) p)) _ _
       (all-of (srcLoadTests (loadSpan p) p) (le-leb _ _ i, (rw c (values-right n (2 ^ 19) v), tt))) tt
 
-  load-dst : (n : ℕ) → length p ≡ 3 + 64 * n → RowsIn (le2 p 1) n 64 (rowCount w) → (w ≡ Bits16 → ValuesIn p n (2 ^ 16)) → Acting (loadDst w (loadSpan p) p)
+  load-dst : (n : ℕ) → length p ≡ 3 + 64 * n → RowsInside (le2 p 1) n 64 (rowCount w) → (w ≡ Bits16 → ValuesIn p n (2 ^ 16)) → Acting (loadDst w (loadSpan p) p)
   unfolding loadDst
   load-dst n l r v =
       let c = counted n l in
@@ -218,7 +211,7 @@ module _ (w : Width) (p : List ℕ) where
 -- ---- the other readers
 
 module _ (w : Width) (p : List ℕ) where
-  register-acts : RegisterIn p 6 → Acting (loadRegister p)
+  register-acts : RegisterNamed p 6 → Acting (loadRegister p)
   unfolding loadRegister
   register-acts h = taken Acting _ _ _ (eq-eqb _ 6 (h .long)) (taken Acting _ _ _ (register-right p 6 h) tt)
 
@@ -242,13 +235,13 @@ module _ (w : Width) (p : List ℕ) where
   unfolding outputRows
   rows-prints h = taken Printing _ _ _ (eq-eqb _ 3 (h .long)) (taken Printing _ _ _ (rows-right w _ _ _ (h .rows)) tt)
 
-  register-prints : RegisterIn p 2 → Printing (outputRegister p)
+  register-prints : RegisterNamed p 2 → Printing (outputRegister p)
   unfolding outputRegister
   register-prints h = taken Printing _ _ _ (eq-eqb _ 2 (h .long)) (taken Printing _ _ _ (register-right p 2 h) tt)
 
 -- ---- a field that is right is read
 
-module _ (w : Width) (f : Bytes) where
+module _ (w : Width) (f : FieldBytes) where
   -- what its reader finds
   abbrev pub found : Kind
   found = readKind w (f .tag) (f .payload)
@@ -280,7 +273,7 @@ module _ (w : Width) (f : Bytes) where
   load-count : (p : List ℕ) → Each (loadLengthTests p) → length p ≡ 3 + 64 * loadSpan p .count
   load-count p l = eqb-true _ _ (l .1 .1 .0)
 
-  load-rows-in : (p : List ℕ) (m : ℕ) → Each (loadLengthTests p) → leb (loadSpan p .first + loadSpan p .count) m ≡ true → RowsIn (le2 p 1) (loadSpan p .count) 64 m
+  load-rows-in : (p : List ℕ) (m : ℕ) → Each (loadLengthTests p) → leb (loadSpan p .first + loadSpan p .count) m ≡ true → RowsInside (le2 p 1) (loadSpan p .count) 64 m
   load-rows-in p m l i = record { some = leb-true _ _ (l .0); most = leb-true _ _ (l .1 .0); inside = leb-true _ _ i }
 
   file-number : (file : File) → fileNumber file ≤ 1

@@ -4,12 +4,12 @@ use mathlib.Core.Path.{_≡_}
 use mathlib.Core.Bool.{true, false}
 use mathlib.Core.List.{List, [], _∷_}
 use mathlib.Core.Logic.{_⊎_, _≢_}
-use mathlib.Core.Option.{some}
-use Prim.Native.Nat.{ℕ, _<_}
+use mathlib.Core.Option.{Option, none, some}
+use Prim.Native.Nat.{ℕ, suc, _<_}
 use lib.Dec.{ltb}
-use lib.ListN.{length}
+use lib.ListN.{length, getD}
 use Rattle.cells.specs.declared.Width.the-variants.{Bits16}
-use Rattle.word.specs.Refusal.{numberOf, rankOf}
+use Rattle.word.specs.Refusal.{done, refused, numberOf, rankOf}
 use Rattle.word.specs.Word.{wordOperands}
 use Rattle.word.specs.declared.Multiply.{Multiply}
 use Rattle.word.specs.declared.Operands.the-variants as operands
@@ -18,12 +18,11 @@ use Rattle.word.specs.declared.Refusal.the-variants.{Shape, StateLength, Unmode
 use Rattle.control.specs.declared.Control.{Control}
 use Rattle.control.specs.declared.Settings.{Settings}
 use Rattle.control.specs.Record.{start, widthOf}
-use Rattle.control.specs.Range.{inRange}
 use Rattle.rules.specs.Rules.{rules}
 use Rattle.rules.specs.declared.Verdict.the-variants as verdict
 use Rattle.cells.specs.State.{State}
 use Rattle.cells.specs.Tests.{oneOf}
-use Rattle.step.specs.Step.{verdictOf, steppedOf, stateOf}
+use Rattle.step.specs.Step.{verdictOf, steppedOf, stateOf, stepAnswer}
 use Rattle.job.specs.Fields.{payloadAt, jobWidth, fieldsFrom}
 use Rattle.job.specs.Settings.{settled}
 use Rattle.job.specs.Values.{OtherValues}
@@ -34,8 +33,9 @@ use Rattle.run.specs.Run.{ran, runOf}
 use Rattle.lines.specs.Text.{refusedText}
 use Rattle.lines.specs.Printed.{printedOf, textsOf}
 use Rattle.run.specs.declared.Outcome.the-variants.{Finished, Refused}
-use Rattle.demand.specs.WellShaped.{WellShaped, FirstWrong}
-use Rattle.demand.specs.Met.{Met, metAt, Goes}
+use Rattle.demand.specs.WellShaped.{WellShaped, fieldsOf, tagged, FirstWrong}
+use Rattle.demand.specs.RecordRange.{RecordIn}
+use Rattle.demand.specs.Meetings.{Meeting, meetingAt, Goes, leaves}
 use Rattle.demand.specs.Breaks.{brokenRule, breaks, FirstBroken, issueFields}
 
 -- ---- the numbers of the table
@@ -71,6 +71,15 @@ pub record Lengths (s : State) : Type 0 where
 abbrev pub Unbroken : List ℕ → Type 0
 Unbroken job = (k : ℕ) (r : Refusal) → breaks job start (unset (jobWidth job)) (fieldsFrom job 0) k r ≡ false
 
+-- what field k of the job meets in a run over s
+abbrev pub meeting : List ℕ → State → ℕ → Option Meeting
+meeting job s k = meetingAt job (fieldsFrom job 0) start (unset (jobWidth job)) s k
+
+-- why a job is turned down: with 1 at the first wrong place of its shape; or, that being right, by its first field that breaks a rule with its lowest number
+pub data Named (job : List ℕ) (r : Refusal) (p : ℕ) : Type 0 where
+  shape : r ≡ Shape → FirstWrong job p → Named job r p
+  rule : WellShaped job → FirstBroken job start (unset (jobWidth job)) (fieldsFrom job 0) r p → Named job r p
+
 pub record Demand3 (job : List ℕ) : Type 0 where
   -- a job passes exactly when its shape is right and no field breaks a rule
   pub right : (n : ℕ) → precheckOf job ≡ checked.Passed n → WellShaped job
@@ -79,19 +88,20 @@ pub record Demand3 (job : List ℕ) : Type 0 where
   -- a job that passes, over any state of the right sizes, finishes with its number of issue fields: it is never refused
   pub finishes : (n : ℕ) → precheckOf job ≡ checked.Passed n → (s : State) → Lengths s
       → runOf job s .outcome ≡ Finished (issueFields (fieldsFrom job 0))
-  -- and no field and no instruction is refused, from the first to the last
-  pub goes : (n : ℕ) → precheckOf job ≡ checked.Passed n → (s : State) → Lengths s
-      → (k : ℕ) (x : Met) → metAt job (fieldsFrom job 0) start (unset (jobWidth job)) s k ≡ some x → Goes x
+  -- these are the fields with tag 5
+  pub issues : (w : WellShaped job) → issueFields (fieldsFrom job 0) ≡ tagged 5 (fieldsOf w)
+  -- no field and no instruction is refused, from the first to the last, and what the last one leaves is what the run leaves
+  pub goes : (n : ℕ) → precheckOf job ≡ checked.Passed n → (s : State) → Lengths s → (k : ℕ) (x : Meeting) → meeting job s k ≡ some x → Goes x
+  pub ends : (n : ℕ) → precheckOf job ≡ checked.Passed n → (s : State) → Lengths s
+      → (k : ℕ) (x : Meeting) → meeting job s k ≡ some x → meeting job s (suc k) ≡ none → runOf job s .state ≡ leaves job x
   -- over any two states of the right sizes it prints the same, in numbers and as texts
   pub prints : (n : ℕ) → precheckOf job ≡ checked.Passed n → (s t : State) → Lengths s → Lengths t
       → printedOf job (runOf job s) ≡ printedOf job (runOf job t)
   pub texts : (n : ℕ) → precheckOf job ≡ checked.Passed n → (s t : State) → Lengths s → Lengths t
       → textsOf job (runOf job s) ≡ textsOf job (runOf job t)
-  -- a job turned down is named by its first wrong place with number 1, and only then with 1; or by its first field that breaks a rule with its lowest number
+  -- a job turned down is named by its first wrong place with number 1, or by its first field that breaks a rule with its lowest number
   pub misshapen : (p : ℕ) → FirstWrong job p → precheckOf job ≡ checked.Refused Shape p
-  pub placed : (p : ℕ) → precheckOf job ≡ checked.Refused Shape p → FirstWrong job p
-  pub found : WellShaped job → (r : Refusal) (p : ℕ) → precheckOf job ≡ checked.Refused r p
-      → FirstBroken job start (unset (jobWidth job)) (fieldsFrom job 0) r p
+  pub found : (r : Refusal) (p : ℕ) → precheckOf job ≡ checked.Refused r p → Named job r p
   -- with one of the numbers 1 to 8
   pub named : (r : Refusal) (p : ℕ) → precheckOf job ≡ checked.Refused r p → oneOf (numberOf r) jobNumbers ≡ true
   -- and a run over any state of the right sizes refuses it with the same number and place, and leaves the state
@@ -115,18 +125,21 @@ pub record StepDemand1 (c : Control) (t w : ℕ) (s : State) : Type 0 where
   pub kept : (r : Refusal) → verdictOf c t w s ≡ verdict.Refused r → stateOf c t w s ≡ s
   pub record-kept : (r : Refusal) → verdictOf c t w s ≡ verdict.Refused r → steppedOf c t w s .control ≡ c
   pub tabled : (r : Refusal) → verdictOf c t w s ≡ verdict.Refused r → oneOf (numberOf r) stepNumbers ≡ true
+  -- in numbers, always at place 0
+  pub answered : (r : Refusal) → verdictOf c t w s ≡ verdict.Refused r → stepAnswer c t w s ≡ refused (numberOf r) 0
+  pub answered-done : verdictOf c t w s ≡ verdict.Done → stepAnswer c t w s ≡ done
   -- 9 exactly when a length is wrong
   pub nine : (Lengths s → ⊥) → verdictOf c t w s ≡ verdict.Refused StateLength
   pub not-nine : Lengths s → verdictOf c t w s ≢ verdict.Refused StateLength
   -- else 1 exactly when the record or the thread is out of range
-  pub one : Lengths s → ((inRange c ≡ true) × (t < 3) → ⊥) → verdictOf c t w s ≡ verdict.Refused Shape
-  pub not-one : inRange c ≡ true → t < 3 → verdictOf c t w s ≢ verdict.Refused Shape
+  pub one : Lengths s → (RecordIn c × (t < 3) → ⊥) → verdictOf c t w s ≡ verdict.Refused Shape
+  pub not-one : RecordIn c → t < 3 → verdictOf c t w s ≢ verdict.Refused Shape
   -- else the first in rank of the rules 2 to 7 that are broken, which has the lowest number; and it is done exactly when none is broken
-  pub broken : Lengths s → inRange c ≡ true → t < 3 → (r : Refusal) → verdictOf c t w s ≡ verdict.Refused r → brokenRule r (rules c t w) ≡ true
-  pub lowest : Lengths s → inRange c ≡ true → t < 3 → (r : Refusal) → verdictOf c t w s ≡ verdict.Refused r
+  pub broken : Lengths s → RecordIn c → t < 3 → (r : Refusal) → verdictOf c t w s ≡ verdict.Refused r → brokenRule r (rules c t w) ≡ true
+  pub lowest : Lengths s → RecordIn c → t < 3 → (r : Refusal) → verdictOf c t w s ≡ verdict.Refused r
       → (q : Refusal) → rankOf q < rankOf r → brokenRule q (rules c t w) ≡ false
   pub unbroken : verdictOf c t w s ≡ verdict.Done → (q : Refusal) → brokenRule q (rules c t w) ≡ false
-  pub done : Lengths s → inRange c ≡ true → t < 3 → ((q : Refusal) → brokenRule q (rules c t w) ≡ false) → verdictOf c t w s ≡ verdict.Done
+  pub done : Lengths s → RecordIn c → t < 3 → ((q : Refusal) → brokenRule q (rules c t w) ≡ false) → verdictOf c t w s ≡ verdict.Done
 
 -- ---- the two Dst modes, spelled out apart from the definitions that the rules and the widths go by
 
@@ -166,7 +179,9 @@ pub record WordModes (c : Control) (t w : ℕ) : Type 0 where
   pub step : InBf16 (c .settings) → (s : State) (r : Refusal) → verdictOf c t w s ≡ verdict.Refused r → numberOf r ≢ 7
 
 pub record JobModes (job : List ℕ) : Type 0 where
-  -- in a job of right shape, fields go by the width of the record that its settings make
+  -- in a job of right shape, fields go by the width of the record that its settings make: of 16-bit rows exactly when the settings, whose payload begins at byte 3, have format 2 and no flag
+  pub halves : WellShaped job → getD job 3 0 ≡ 2 → getD job 4 0 ≡ 0 → jobWidth job ≡ Bits16
+  pub bytes : WellShaped job → jobWidth job ≡ Bits16 → (getD job 3 0 ≡ 2) × (getD job 4 0 ≡ 0)
   pub width : WellShaped job → jobWidth job ≡ widthOf (settled start (payloadAt job 0) .settings)
   -- neither the pre-check nor a run over any state refuses a job in the BF16 mode with 7
   pub check : jobWidth job ≡ Bits16 → (r : Refusal) (p : ℕ) → precheckOf job ≡ checked.Refused r p → numberOf r ≢ 7

@@ -1,5 +1,6 @@
 -- What the buyer signs for, as statements over the definitions that the contracts cite.
 pub mod WellShaped
+pub mod RecordRange
 pub mod Breaks
-pub mod Met
+pub mod Meetings
 pub mod Demand

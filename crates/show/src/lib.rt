@@ -1,30 +1,39 @@
-// Writing to standard output: a text, and all that a run prints.
+// What the programs do around the proved work: they read the input, write texts, and say how they ended.
+mod end;
+mod input;
+
+pub use end::End;
+pub use end::check_end;
+pub use end::run_end;
+pub use end::say;
+pub use end::told;
+pub use input::Input;
+pub use input::read;
 use lines::Text;
 use run::Outcome;
 
-fn put_first(bytes: &[u8], n: usize) -> bool {
+fn put_first(fd: i32, bytes: &[u8], n: usize) -> bool {
     if n <= bytes.len() {
-        io::write_all(1, &bytes[..n])
-    } else {
-        false
+        return io::write_all(fd, &bytes[..n]);
     }
+    false
 }
 
-// False where it is not written whole.
-pub fn put(t: Text) -> bool {
+// Whether all of the text was written.
+pub fn put(fd: i32, t: Text) -> bool {
     let bytes = t.bytes;
-    put_first(&bytes, t.len)
+    put_first(fd, &bytes, t.len)
 }
 
-// All texts of a run, in their order. False where one is not written whole; none is written after it.
-pub fn put_run(job: &[u8], outcome: Outcome, dst: &[u32], registers: &[u32]) -> bool {
+// All texts of a run, in their order: whether all of it was written. Nothing is written after a write that failed.
+pub fn put_run(fd: i32, job: &[u8], outcome: Outcome, dst: &[u32], registers: &[u32]) -> bool {
     let mut c = lines::start();
     loop {
         let n = lines::next_text(job, outcome, c, dst, registers);
         if n.end {
             return true;
         }
-        if !put(n.text) {
+        if !put(fd, n.text) {
             return false;
         }
         c = n.after;

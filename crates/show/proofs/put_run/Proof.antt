@@ -9,10 +9,10 @@ use Rattle.show.proofs.put_run.Statement.{statement}
 use Rattle.show.proofs.put_run.Tie as tie
 
 abbrev Inv-loop : tie.InvT-loop
-Inv-loop job outcome dst registers c₀ c = Unit {0}
+Inv-loop fd job outcome dst registers c₀ c = Unit {0}
 
 abbrev μ-loop : tie.MeasureT-loop
-μ-loop job outcome dst registers c₀ c = length (printedFrom job outcome c (state [] [] dst registers))
+μ-loop fd job outcome dst registers c₀ c = length (printedFrom job outcome c (state [] [] dst registers))
 
 start-requires : tie.Need-start-requires Inv-loop μ-loop
 start-requires c κs = search needs

@@ -9,7 +9,7 @@ use lib.Seq.{take-append-seam, drop-append-add, drop-cons, drop-drop, length-tak
 use Rattle.job.specs.Bytes.{le2}
 use Rattle.job.specs.Fields.{payloadAt, endAt, jobWidth, wholeField, fieldAt}
 use Rattle.job.specs.Kinds.{readKind}
-use Rattle.demand.specs.WellShaped.{Bytes, bytesOf}
+use Rattle.demand.specs.WellShaped.{FieldBytes, bytesOf}
 
 -- ---- the field that stands behind some bytes
 
@@ -17,7 +17,7 @@ getD-add : (xs ys : List ℕ) (i : ℕ) → getD (xs ++ ys) (length xs + i) 0 �
 getD-add [] ys i = let e : 0 + i ≡ i = omega arith in rw e
 getD-add (x ∷ xs) ys i = let e : suc (length xs) + i ≡ suc (length xs + i) = omega arith in rw e (getD-add xs ys i)
 
-module _ (pre : List ℕ) (f : Bytes) (rest : List ℕ) where
+module _ (pre : List ℕ) (f : FieldBytes) (rest : List ℕ) where
   abbrev all-bytes : List ℕ
   all-bytes = pre ++ (bytesOf f ++ rest)
 
@@ -44,7 +44,7 @@ module _ (pre : List ℕ) (f : Bytes) (rest : List ℕ) where
 
 -- and back: bytes that are a whole field
 module _ (job : List ℕ) (at : ℕ) (h : endAt job at ≤ length job) where
-  abbrev pub here : Bytes
+  abbrev pub here : FieldBytes
   here =
       record {
         tag = getD job at 0;
