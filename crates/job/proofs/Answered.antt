@@ -23,7 +23,7 @@ use Rattle.job.specs.declared.Kind.{Kind}
 use Rattle.job.specs.declared.Kind.the-variants.{Settings, Issue, HandOver, Writes, Prints, Wrong}
 use Rattle.job.specs.declared.Write.the-variants.{LoadSrc, LoadDst, LoadRegister, ZeroRows}
 use Rattle.job.specs.declared.Output.the-variants.{Rows, Register}
-use Rattle.job.specs.Answers.{carries, fileNumber, kindNumbers, fieldNumbers, fieldAnswer, payloadNumbers, shapeNumbers, shapeAnswer}
+use Rattle.job.specs.Answers.{carries, fileNumber, widthNumbers, widthAnswer, kindNumbers, fieldNumbers, fieldAnswer, payloadNumbers, shapeNumbers, shapeAnswer}
 use Rattle.job.specs.Fields.{endAt, payloadAt, jobWidth, wholeField, fieldAt}
 use Rattle.job.specs.Shape.{shapeOf}
 use Rattle.job.specs.declared.Field.{Field}
@@ -44,6 +44,9 @@ module _ (job : List ℕ) (at : ℕ) where
   field-whole n e h = rw (← e, le-leb (at + 3 + n) (length job) h, add-sub-cancel-left (at + 3) n)
 
 -- ---- the answer in numbers goes by the answer
+
+pub width-answered : (job : List ℕ) (w : Width) → w ≡ jobWidth job → (w ≡ jobWidth job) × (widthNumbers w ≡ widthAnswer job)
+width-answered job w e = (e, ap widthNumbers e)
 
 pub field-answered : (job : List ℕ) (at : ℕ) (f : Field) → f ≡ fieldAt job at → (f ≡ fieldAt job at) × (fieldNumbers f ≡ fieldAnswer job at)
 field-answered job at f e = (e, ap fieldNumbers e)

@@ -9,11 +9,13 @@ use lib.ListN.{getD}
 use Rattle.cells.specs.declared.layout.File.{File}
 use Rattle.cells.specs.declared.layout.File.the-variants.{A, B}
 use Rattle.cells.specs.declared.layout.Span.{Span}
+use Rattle.cells.specs.declared.Width.{Width}
+use Rattle.cells.specs.Places.{rowCount, limitOf}
 use Rattle.word.specs.Refusal.{Answer, done, answerOf}
 use Rattle.word.specs.declared.Refusal.the-variants as refusal
 use Rattle.job.specs.Bytes.{le2, le4}
 use Rattle.job.specs.Kinds.{loadSpan}
-use Rattle.job.specs.Fields.{fieldAt}
+use Rattle.job.specs.Fields.{jobWidth, fieldAt}
 use Rattle.job.specs.Shape.{shapeOf}
 use Rattle.job.specs.declared.Write.{Write}
 use Rattle.job.specs.declared.Write.the-variants.{LoadSrc, LoadDst, LoadRegister, ZeroRows}
@@ -24,6 +26,14 @@ use Rattle.job.specs.declared.Kind.the-variants as kind
 use Rattle.job.specs.declared.Field.{Field}
 use Rattle.job.specs.declared.Shape.{Shape}
 use Rattle.job.specs.declared.Shape.the-variants.{Right, WrongAt}
+
+-- ---- the width of Dst's rows: how many there are, and below what their numbers are
+
+abbrev pub widthNumbers : Width → List ℕ
+widthNumbers w = rowCount w ∷ limitOf w ∷ []
+
+abbrev pub widthAnswer : List ℕ → List ℕ
+widthAnswer job = widthNumbers (jobWidth job)
 
 -- ---- a field
 

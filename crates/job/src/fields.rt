@@ -9,11 +9,12 @@ use cells::Width;
 ghost use mathlib.Core.Path.{_≡_};
 ghost use Rattle.job.specs.Kinds.{readKind};
 ghost use Rattle.job.specs.Fields.{payloadAt, jobWidth, wholeField, fieldAt};
-ghost use Rattle.job.specs.Answers.{fieldNumbers, fieldAnswer};
+ghost use Rattle.job.specs.Answers.{widthNumbers, widthAnswer, fieldNumbers, fieldAnswer};
 
 // The width of Dst's rows, from the settings' format and flags: they come first.
 pub fn job_width(job: &[u8]) -> Width
-    ensures { λ r. ⌜ r ≡ jobWidth (now (job .entry)) ⌝ }
+    ensures width { λ r. ⌜ r ≡ jobWidth (now (job .entry)) ⌝ }
+    ensures answer { λ r. ⌜ widthNumbers r ≡ widthAnswer (now (job .entry)) ⌝ }
 {
     let flags = byte_at(job, 4);
     control::width_from(
