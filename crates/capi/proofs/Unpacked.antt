@@ -5,13 +5,13 @@ use mathlib.Core.Bool.{true}
 use mathlib.Core.List.{List, [], _∷_}
 use Prim.Native.Nat.{ℕ, zero, suc, _+_, _*_, _/_, _%_, _<_, _≤_}
 use native.Mathlib.Omega.{arith}
-use borrow.Author.Tests.{leb-true, ltb-true, ltb-false, lt-ltb, le-ltb, ne-eqb}
-use lib.Dec.{leb, ltb, eqb}
+use borrow.Author.Tests.{ltb-true, ltb-false, lt-ltb, le-ltb, ne-eqb}
+use lib.Dec.{ltb}
 use lib.ListN.{length}
 use Rattle.cells.specs.Layout.{jobBytes}
 use Rattle.cells.proofs.Cells.{split}
 use Rattle.word.proofs.Numbers.{number-byte}
-use Rattle.word.specs.Refusal.{numberOf, Answer, done, finished, refused}
+use Rattle.word.specs.Refusal.{numberOf, Answer, done, passed, finished, refused}
 use Rattle.word.specs.declared.Refusal.the-variants as refusal
 use Rattle.control.specs.declared.Control.{Control}
 use Rattle.control.specs.Record.{start}
@@ -36,16 +36,19 @@ use Rattle.precheck.specs.Marks.{Marks}
 use Rattle.precheck.specs.declared.Checked.{Checked}
 use Rattle.precheck.specs.declared.Checked.the-variants as checked
 use Rattle.precheck.proofs.Checking.{precheck-right, precheck-wrong, precheck-passed}
+use Rattle.run.specs.declared.Outcome.{Outcome}
+use Rattle.run.specs.declared.Outcome.the-variants as outcome
 use Rattle.run.specs.Perform.{stepVerdict}
 use Rattle.run.specs.Run.{Ran, unlessRefused, execute, runOf, outcomeAnswer, runAnswer}
 use Rattle.run.proofs.Running.{run-unsized, run-refused, run-passed}
-use Rattle.capi.specs.Packed.{refusalBit, numberUnit, packed, unpackedRefusal, unpacked, unpackedStep}
+use Rattle.capi.specs.Packed.{refusalBit, numberUnit, packed, unpackedRefusal, unpackedCount, unpackedCheck, unpackedRun, unpackedStep}
 
 -- ---- small answers
 
 -- a job's answer whose count or place is at most 8,192
 abbrev Small : Answer → Type 0
 Small done = ⊥
+Small (passed n) = n ≤ jobBytes
 Small (finished n) = n ≤ jobBytes
 Small (refused number place) = (number < 256) × (place ≤ jobBytes)
 
@@ -59,12 +62,14 @@ refusal-unpacks number place i j =
     let n : x / numberUnit % (refusalBit / numberUnit) ≡ number = rw q (omega arith) in
     (rw (p, n), omega arith)
 
-unpacks : (a : Answer) → Small a → unpacked (packed a) ≡ a
-unpacks done s = absurd s
-unpacks (finished n) s = rw (lt-ltb n refusalBit (omega arith))
-unpacks (refused number place) s =
-    let u = refusal-unpacks number place (s .0) (s .1) in
-    rw (le-ltb (packed (refused number place)) refusalBit (u .1)) (u .0)
+module _ (counted : ℕ → Answer) where
+  count-unpacks : (n : ℕ) → n ≤ jobBytes → unpackedCount counted n ≡ counted n
+  count-unpacks n s = rw (lt-ltb n refusalBit (omega arith))
+
+  refused-unpacks : (number place : ℕ) → Small (refused number place) → unpackedCount counted (packed (refused number place)) ≡ refused number place
+  refused-unpacks number place s =
+      let u = refusal-unpacks number place (s .0) (s .1) in
+      rw (le-ltb (packed (refused number place)) refusalBit (u .1)) (u .0)
 
 -- ---- the fields of a short job
 
@@ -128,11 +133,21 @@ run-small job s = split (sized s) (λ z. go z (precheckOf job) refl (precheck-sm
 
 -- ---- nothing is lost
 
-pub precheck-unpacked : (job : List ℕ) → unpacked (packed (precheckAnswer job)) ≡ precheckAnswer job
-precheck-unpacked job = unpacks (precheckAnswer job) (precheck-small job)
+pub precheck-unpacked : (job : List ℕ) → unpackedCheck (packed (precheckAnswer job)) ≡ precheckAnswer job
+unfolding precheckAnswer
+precheck-unpacked job = go (precheckOf job) (precheck-small job)
+  where
+    go : (x : Checked) → Small (checkedAnswer x) → unpackedCheck (packed (checkedAnswer x)) ≡ checkedAnswer x
+    go (checked.Passed n) s = count-unpacks passed n s
+    go (checked.Refused r place) s = refused-unpacks passed (numberOf r) place s
 
-pub run-unpacked : (job : List ℕ) (s : State) → unpacked (packed (runAnswer job s)) ≡ runAnswer job s
-run-unpacked job s = unpacks (runAnswer job s) (run-small job s)
+pub run-unpacked : (job : List ℕ) (s : State) → unpackedRun (packed (runAnswer job s)) ≡ runAnswer job s
+unfolding runAnswer
+run-unpacked job s = go (runOf job s .outcome) (run-small job s)
+  where
+    go : (x : Outcome) → Small (outcomeAnswer x) → unpackedRun (packed (outcomeAnswer x)) ≡ outcomeAnswer x
+    go (outcome.Finished n) s = count-unpacks finished n s
+    go (outcome.Refused r place) s = refused-unpacks finished (numberOf r) place s
 
 pub step-unpacked : (c : Control) (t w : ℕ) (s : State) → unpackedStep (packed (stepAnswer c t w s)) ≡ stepAnswer c t w s
 unfolding stepAnswer

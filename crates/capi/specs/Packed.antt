@@ -2,7 +2,7 @@
 use mathlib.Core.Bool.{cond}
 use Prim.Native.Nat.{ℕ, _+_, _*_, _/_, _%_, _^_}
 use lib.Dec.{eqb, ltb}
-use Rattle.word.specs.Refusal.{Answer, done, finished, refused}
+use Rattle.word.specs.Refusal.{Answer, done, passed, finished, refused}
 
 -- from here on an answer is a refusal
 abbrev pub refusalBit : ℕ
@@ -16,6 +16,7 @@ numberUnit = 2 ^ 32
 -- `precheck-unpacked`, `run-unpacked` and `step-unpacked`).
 abbrev pub packed : Answer → ℕ
 packed done = 0
+packed (passed n) = n
 packed (finished n) = n
 packed (refused number place) = refusalBit + number * numberUnit + place % numberUnit
 
@@ -23,9 +24,16 @@ packed (refused number place) = refusalBit + number * numberUnit + place % numbe
 abbrev pub unpackedRefusal : ℕ → Answer
 unpackedRefusal x = refused (x / numberUnit % (refusalBit / numberUnit)) (x % numberUnit)
 
--- the answer of a job; of a step
-abbrev pub unpacked : ℕ → Answer
-unpacked x = cond (ltb x refusalBit) (finished x) (unpackedRefusal x)
+-- a count, of a job that passed or that finished, or a refusal
+abbrev pub unpackedCount : (ℕ → Answer) → ℕ → Answer
+unpackedCount counted x = cond (ltb x refusalBit) (counted x) (unpackedRefusal x)
+
+-- the answer of the pre-check; of a run; of a step
+abbrev pub unpackedCheck : ℕ → Answer
+unpackedCheck x = unpackedCount passed x
+
+abbrev pub unpackedRun : ℕ → Answer
+unpackedRun x = unpackedCount finished x
 
 abbrev pub unpackedStep : ℕ → Answer
 unpackedStep x = cond (eqb x 0) done (unpackedRefusal x)

@@ -9,10 +9,12 @@ use cells::Width;
 ghost use mathlib.Core.Path.{_≡_};
 ghost use Rattle.job.specs.Kinds.{readKind};
 ghost use Rattle.job.specs.Fields.{payloadAt, jobWidth, wholeField, fieldAt};
+ghost use Rattle.job.specs.Answers.{widthNumbers, widthAnswer, fieldNumbers, fieldAnswer};
 
 // The width of Dst's rows, from the settings' format and flags: they come first.
 pub fn job_width(job: &[u8]) -> Width
-    ensures { λ r. ⌜ r ≡ jobWidth (now (job .entry)) ⌝ }
+    ensures width { λ r. ⌜ r ≡ jobWidth (now (job .entry)) ⌝ }
+    ensures answer { λ r. ⌜ widthNumbers r ≡ widthAnswer (now (job .entry)) ⌝ }
 {
     let flags = byte_at(job, 4);
     control::width_from(
@@ -99,7 +101,8 @@ pub fn payload_at(job: &[u8], at: usize) -> &[u8]
 
 // The field whose tag stands at `at`; bytes that are no whole field are a wrong one, up to the end.
 pub fn field_at(job: &[u8], at: usize) -> Field
-    ensures { λ r. ⌜ r ≡ fieldAt (now (job .entry)) at ⌝ }
+    ensures field { λ r. ⌜ r ≡ fieldAt (now (job .entry)) at ⌝ }
+    ensures answer { λ r. ⌜ fieldNumbers r ≡ fieldAnswer (now (job .entry)) at ⌝ }
 {
     let n = job.len();
     let cut = Field {

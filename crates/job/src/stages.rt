@@ -6,6 +6,7 @@ use crate::fields::field_at;
 use cells::JOB_BYTES;
 ghost use mathlib.Core.Path.{_≡_};
 ghost use Rattle.job.specs.Shape.{settingsAt, actingAt, printingAt, placed, shapeAtEnd, shapeOf};
+ghost use Rattle.job.specs.Answers.{shapeNumbers, shapeAnswer};
 
 // A job opens with its settings, then fields act, then it prints.
 pub enum Stage {
@@ -74,7 +75,8 @@ fn shape_at_end(n: usize, stage: Stage) -> Shape
 }
 
 pub fn find_shape(job: &[u8]) -> Shape
-    ensures { λ r. ⌜ r ≡ shapeOf (now (job .entry)) ⌝ }
+    ensures shape { λ r. ⌜ r ≡ shapeOf (now (job .entry)) ⌝ }
+    ensures answer { λ r. ⌜ shapeNumbers r ≡ shapeAnswer (now (job .entry)) ⌝ }
 {
     let n = job.len();
     if JOB_BYTES < n {

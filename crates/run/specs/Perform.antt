@@ -1,7 +1,7 @@
 -- Document 01, "The job": what a field does to the lent numbers and to the control record. An instruction acts through the single step, which
 -- gives both; the record after any other field is `fieldControl`'s. Definitions only.
 use mathlib.Core.List.{List}
-use Prim.Native.Nat.{ℕ, _-_, _*_}
+use Prim.Native.Nat.{ℕ, _-_}
 use Rattle.cells.specs.declared.layout.Span.{Span}
 use Rattle.cells.specs.declared.Width.{Width}
 use Rattle.cells.specs.declared.Width.the-variants.{Bits32}

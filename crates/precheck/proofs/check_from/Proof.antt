@@ -55,7 +55,7 @@ same-length c = (c .before .before .before .before .before .before .before .befo
 
 returns : tie.Need-returns Inv-loop μ-loop
 unfolding fieldRules lowest
-returns c = turn-stop _ _ _ _ _ _ _ _ _ (c .before .before .before .before .before .before .before .before .before .before .before .before .before .loop .inv) _ (c .before .before .before .before .before .before .before .before .before .before .before .before .loop-test .taken) (c .before .before .before .before .before .before .before .before .before .before .before .field-at .ensures) _ ((c .before .before .before .before .before .before .before .before .before .kind .given) .1) _ (sym ((c .before .before .before .check-issue .ensures) .0) ∙ (c .before .verdict .given) .1)
+returns c = turn-stop _ _ _ _ _ _ _ _ _ (c .before .before .before .before .before .before .before .before .before .before .before .before .before .loop .inv) _ (c .before .before .before .before .before .before .before .before .before .before .before .before .loop-test .taken) (c .before .before .before .before .before .before .before .before .before .before .before .field-at .ensures .0) _ ((c .before .before .before .before .before .before .before .before .before .kind .given) .1) _ (sym ((c .before .before .before .check-issue .ensures) .0) ∙ (c .before .verdict .given) .1)
 
 enum-told-2 : tie.Need-enum-told-2 Inv-loop μ-loop
 enum-told-2 c = search needs
@@ -80,7 +80,7 @@ same-length-2 c = (c .before .before .before .before .before .before .before .be
 
 returns-2 : tie.Need-returns-2 Inv-loop μ-loop
 unfolding fieldRules lowest
-returns-2 c = turn-stop _ _ _ _ _ _ _ _ _ (c .before .before .before .before .before .before .before .before .before .loop .inv) _ (c .before .before .before .before .before .before .before .before .loop-test .taken) (c .before .before .before .before .before .before .before .field-at .ensures) _ ((c .before .before .before .before .before .kind2 .given) .1) _ (sym (c .before .before .before .judge-bank .ensures) ∙ (c .before .verdict2 .given) .1)
+returns-2 c = turn-stop _ _ _ _ _ _ _ _ _ (c .before .before .before .before .before .before .before .before .before .loop .inv) _ (c .before .before .before .before .before .before .before .before .loop-test .taken) (c .before .before .before .before .before .before .before .field-at .ensures .0) _ ((c .before .before .before .before .before .kind2 .given) .1) _ (sym (c .before .before .before .judge-bank .ensures) ∙ (c .before .verdict2 .given) .1)
 
 enum-told-3 : tie.Need-enum-told-3 Inv-loop μ-loop
 enum-told-3 c = search needs
@@ -102,7 +102,7 @@ same-length-3 c = (c .before .before .before .before .before .check-write .kept)
 
 returns-3 : tie.Need-returns-3 Inv-loop μ-loop
 unfolding fieldRules lowest
-returns-3 c = turn-stop _ _ _ _ _ _ _ _ _ (c .before .before .before .before .before .before .before .before .before .before .before .before .before .before .before .loop .inv) _ (c .before .before .before .before .before .before .before .before .before .before .before .before .before .before .loop-test .taken) (c .before .before .before .before .before .before .before .before .before .before .before .before .before .field-at .ensures) _ ((c .before .before .before .before .before .before .before .before .before .before .before .kind3 .given) .1) _ (sym ((c .before .before .before .before .before .check-write .ensures) .0) ∙ (c .before .verdict3 .given) .1)
+returns-3 c = turn-stop _ _ _ _ _ _ _ _ _ (c .before .before .before .before .before .before .before .before .before .before .before .before .before .before .before .loop .inv) _ (c .before .before .before .before .before .before .before .before .before .before .before .before .before .before .loop-test .taken) (c .before .before .before .before .before .before .before .before .before .before .before .before .before .field-at .ensures .0) _ ((c .before .before .before .before .before .before .before .before .before .before .before .kind3 .given) .1) _ (sym ((c .before .before .before .before .before .check-write .ensures) .0) ∙ (c .before .verdict3 .given) .1)
 
 enum-told-4 : tie.Need-enum-told-4 Inv-loop μ-loop
 enum-told-4 c = search needs
@@ -121,7 +121,7 @@ same-length-4 c = (c .before .before .before .before .before .before .before .be
 
 returns-4 : tie.Need-returns-4 Inv-loop μ-loop
 unfolding fieldRules lowest
-returns-4 c = turn-stop _ _ _ _ _ _ _ _ _ (c .before .before .before .before .before .before .before .before .before .before .before .loop .inv) _ (c .before .before .before .before .before .before .before .before .before .before .loop-test .taken) (c .before .before .before .before .before .before .before .before .before .field-at .ensures) _ ((c .before .before .before .before .before .before .before .kind4 .given) .1) _ (sym ((c .before .before .before .judge-output .ensures) _ _) ∙ (c .before .verdict4 .given) .1)
+returns-4 c = turn-stop _ _ _ _ _ _ _ _ _ (c .before .before .before .before .before .before .before .before .before .before .before .loop .inv) _ (c .before .before .before .before .before .before .before .before .before .before .loop-test .taken) (c .before .before .before .before .before .before .before .before .before .field-at .ensures .0) _ ((c .before .before .before .before .before .before .before .kind4 .given) .1) _ (sym ((c .before .before .before .judge-output .ensures) _ _) ∙ (c .before .verdict4 .given) .1)
 
 enum-told-5 : tie.Need-enum-told-5 Inv-loop μ-loop
 enum-told-5 c = search needs
@@ -130,46 +130,46 @@ enum-told-6 : tie.Need-enum-told-6 Inv-loop μ-loop
 enum-told-6 c = search needs
 
 loop-less : tie.Need-loop-less Inv-loop μ-loop
-loop-less c = omega (arith, next-after _ _ _ (c .before .before .before .before .before .loop-test .taken) (c .before .before .before .before .field-at .ensures), (c .before .before .before .before .before .loop-test .taken))
+loop-less c = omega (arith, next-after _ _ _ (c .before .before .before .before .before .loop-test .taken) (c .before .before .before .before .field-at .ensures .0), (c .before .before .before .before .before .loop-test .taken))
 
 loop-again : tie.Need-loop-again Inv-loop μ-loop
 unfolding fieldRules fieldControl fieldMarks lowest
-loop-again c = turn-on _ _ _ _ _ _ _ _ _ (c .before .before .before .before .before .before .loop .inv) _ (c .before .before .before .before .before .loop-test .taken) (c .before .before .before .before .field-at .ensures) _ ((c .before .before .enum-told .given) .1) (refl) (c .settle .ensures ∙ ap (settledBy _) (c .before .payload-at .ensures)) (refl) (refl) (omega arith)
+loop-again c = turn-on _ _ _ _ _ _ _ _ _ (c .before .before .before .before .before .before .loop .inv) _ (c .before .before .before .before .before .loop-test .taken) (c .before .before .before .before .field-at .ensures .0) _ ((c .before .before .enum-told .given) .1) (refl) (c .settle .ensures ∙ ap (settledBy _) (c .before .payload-at .ensures)) (refl) (refl) (omega arith)
 
 loop-less-2 : tie.Need-loop-less-2 Inv-loop μ-loop
-loop-less-2 c = omega (arith, next-after _ _ _ (c .before .before .before .before .before .before .before .before .before .before .before .before .loop-test .taken) (c .before .before .before .before .before .before .before .before .before .before .before .field-at .ensures), (c .before .before .before .before .before .before .before .before .before .before .before .before .loop-test .taken))
+loop-less-2 c = omega (arith, next-after _ _ _ (c .before .before .before .before .before .before .before .before .before .before .before .before .loop-test .taken) (c .before .before .before .before .before .before .before .before .before .before .before .field-at .ensures .0), (c .before .before .before .before .before .before .before .before .before .before .before .before .loop-test .taken))
 
 loop-again-2 : tie.Need-loop-again-2 Inv-loop μ-loop
 unfolding fieldRules fieldControl fieldMarks lowest
-loop-again-2 c = turn-on _ _ _ _ _ _ _ _ _ (c .before .before .before .before .before .before .before .before .before .before .before .before .before .loop .inv) _ (c .before .before .before .before .before .before .before .before .before .before .before .before .loop-test .taken) (c .before .before .before .before .before .before .before .before .before .before .before .field-at .ensures) _ ((c .before .before .before .before .before .before .before .before .before .kind .given) .1) (sym ((c .before .before .before .check-issue .ensures) .0) ∙ (c .before .enum-told2 .given) .1) (control-by _ _ _ _ _ ((c .before .before .before .check-issue .ensures) .1 ((c .before .enum-told2 .given) .1) .0) (c .record-after .ensures)) ((c .before .before .before .check-issue .ensures) .1 ((c .before .enum-told2 .given) .1) .1) (refl) (refl)
+loop-again-2 c = turn-on _ _ _ _ _ _ _ _ _ (c .before .before .before .before .before .before .before .before .before .before .before .before .before .loop .inv) _ (c .before .before .before .before .before .before .before .before .before .before .before .before .loop-test .taken) (c .before .before .before .before .before .before .before .before .before .before .before .field-at .ensures .0) _ ((c .before .before .before .before .before .before .before .before .before .kind .given) .1) (sym ((c .before .before .before .check-issue .ensures) .0) ∙ (c .before .enum-told2 .given) .1) (control-by _ _ _ _ _ ((c .before .before .before .check-issue .ensures) .1 ((c .before .enum-told2 .given) .1) .0) (c .record-after .ensures)) ((c .before .before .before .check-issue .ensures) .1 ((c .before .enum-told2 .given) .1) .1) (refl) (refl)
 
 loop-less-3 : tie.Need-loop-less-3 Inv-loop μ-loop
-loop-less-3 c = omega (arith, next-after _ _ _ (c .before .before .before .before .before .before .before .before .loop-test .taken) (c .before .before .before .before .before .before .before .field-at .ensures), (c .before .before .before .before .before .before .before .before .loop-test .taken))
+loop-less-3 c = omega (arith, next-after _ _ _ (c .before .before .before .before .before .before .before .before .loop-test .taken) (c .before .before .before .before .before .before .before .field-at .ensures .0), (c .before .before .before .before .before .before .before .before .loop-test .taken))
 
 loop-again-3 : tie.Need-loop-again-3 Inv-loop μ-loop
 unfolding fieldRules fieldControl fieldMarks lowest
-loop-again-3 c = turn-on _ _ _ _ _ _ _ _ _ (c .before .before .before .before .before .before .before .before .before .loop .inv) _ (c .before .before .before .before .before .before .before .before .loop-test .taken) (c .before .before .before .before .before .before .before .field-at .ensures) _ ((c .before .before .before .before .before .kind2 .given) .1) (sym (c .before .before .before .judge-bank .ensures) ∙ (c .before .enum-told3 .given) .1) ((c .hand-over .ensures)) (refl) (refl) (omega arith)
+loop-again-3 c = turn-on _ _ _ _ _ _ _ _ _ (c .before .before .before .before .before .before .before .before .before .loop .inv) _ (c .before .before .before .before .before .before .before .before .loop-test .taken) (c .before .before .before .before .before .before .before .field-at .ensures .0) _ ((c .before .before .before .before .before .kind2 .given) .1) (sym (c .before .before .before .judge-bank .ensures) ∙ (c .before .enum-told3 .given) .1) ((c .hand-over .ensures)) (refl) (refl) (omega arith)
 
 loop-less-4 : tie.Need-loop-less-4 Inv-loop μ-loop
-loop-less-4 c = omega (arith, next-after _ _ _ (c .before .before .before .before .before .before .before .before .before .before .before .before .before .loop-test .taken) (c .before .before .before .before .before .before .before .before .before .before .before .before .field-at .ensures), (c .before .before .before .before .before .before .before .before .before .before .before .before .before .loop-test .taken))
+loop-less-4 c = omega (arith, next-after _ _ _ (c .before .before .before .before .before .before .before .before .before .before .before .before .before .loop-test .taken) (c .before .before .before .before .before .before .before .before .before .before .before .before .field-at .ensures .0), (c .before .before .before .before .before .before .before .before .before .before .before .before .before .loop-test .taken))
 
 loop-again-4 : tie.Need-loop-again-4 Inv-loop μ-loop
 unfolding fieldRules fieldControl fieldMarks lowest
-loop-again-4 c = turn-on _ _ _ _ _ _ _ _ _ (c .before .before .before .before .before .before .before .before .before .before .before .before .before .before .loop .inv) _ (c .before .before .before .before .before .before .before .before .before .before .before .before .before .loop-test .taken) (c .before .before .before .before .before .before .before .before .before .before .before .before .field-at .ensures) _ ((c .before .before .before .before .before .before .before .before .before .before .kind3 .given) .1) (sym ((c .before .before .before .before .check-write .ensures) .0) ∙ (c .enum-told4 .given) .1) (refl) ((c .before .before .before .before .check-write .ensures) .1) ((c .before .before .before .before .check-write .kept) .1 .1 .1 .1 .0) (omega arith)
+loop-again-4 c = turn-on _ _ _ _ _ _ _ _ _ (c .before .before .before .before .before .before .before .before .before .before .before .before .before .before .loop .inv) _ (c .before .before .before .before .before .before .before .before .before .before .before .before .before .loop-test .taken) (c .before .before .before .before .before .before .before .before .before .before .before .before .field-at .ensures .0) _ ((c .before .before .before .before .before .before .before .before .before .before .kind3 .given) .1) (sym ((c .before .before .before .before .check-write .ensures) .0) ∙ (c .enum-told4 .given) .1) (refl) ((c .before .before .before .before .check-write .ensures) .1) ((c .before .before .before .before .check-write .kept) .1 .1 .1 .1 .0) (omega arith)
 
 loop-less-5 : tie.Need-loop-less-5 Inv-loop μ-loop
-loop-less-5 c = omega (arith, next-after _ _ _ (c .before .before .before .before .before .before .before .before .before .loop-test .taken) (c .before .before .before .before .before .before .before .before .field-at .ensures), (c .before .before .before .before .before .before .before .before .before .loop-test .taken))
+loop-less-5 c = omega (arith, next-after _ _ _ (c .before .before .before .before .before .before .before .before .before .loop-test .taken) (c .before .before .before .before .before .before .before .before .field-at .ensures .0), (c .before .before .before .before .before .before .before .before .before .loop-test .taken))
 
 loop-again-5 : tie.Need-loop-again-5 Inv-loop μ-loop
 unfolding fieldRules fieldControl fieldMarks lowest
-loop-again-5 c = turn-on _ _ _ _ _ _ _ _ _ (c .before .before .before .before .before .before .before .before .before .before .loop .inv) _ (c .before .before .before .before .before .before .before .before .before .loop-test .taken) (c .before .before .before .before .before .before .before .before .field-at .ensures) _ ((c .before .before .before .before .before .before .kind4 .given) .1) (sym ((c .before .before .judge-output .ensures) _ _) ∙ (c .enum-told5 .given) .1) (refl) (refl) (refl) (omega arith)
+loop-again-5 c = turn-on _ _ _ _ _ _ _ _ _ (c .before .before .before .before .before .before .before .before .before .before .loop .inv) _ (c .before .before .before .before .before .before .before .before .before .loop-test .taken) (c .before .before .before .before .before .before .before .before .field-at .ensures .0) _ ((c .before .before .before .before .before .before .kind4 .given) .1) (sym ((c .before .before .judge-output .ensures) _ _) ∙ (c .enum-told5 .given) .1) (refl) (refl) (refl) (omega arith)
 
 loop-less-6 : tie.Need-loop-less-6 Inv-loop μ-loop
-loop-less-6 c = omega (arith, next-after _ _ _ (c .before .before .before .loop-test .taken) (c .before .before .field-at .ensures), (c .before .before .before .loop-test .taken))
+loop-less-6 c = omega (arith, next-after _ _ _ (c .before .before .before .loop-test .taken) (c .before .before .field-at .ensures .0), (c .before .before .before .loop-test .taken))
 
 loop-again-6 : tie.Need-loop-again-6 Inv-loop μ-loop
 unfolding fieldRules fieldControl fieldMarks lowest
-loop-again-6 c = turn-on _ _ _ _ _ _ _ _ _ (c .before .before .before .before .loop .inv) _ (c .before .before .before .loop-test .taken) (c .before .before .field-at .ensures) _ ((c .enum-told6 .given) .1) (refl) (refl) (refl) (refl) (omega arith)
+loop-again-6 c = turn-on _ _ _ _ _ _ _ _ _ (c .before .before .before .before .loop .inv) _ (c .before .before .before .loop-test .taken) (c .before .before .field-at .ensures .0) _ ((c .enum-told6 .given) .1) (refl) (refl) (refl) (refl) (omega arith)
 
 same-length-5 : tie.Need-same-length-5 Inv-loop μ-loop
 same-length-5 c = (c .before .loop .inv .long)

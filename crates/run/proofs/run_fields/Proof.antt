@@ -64,7 +64,7 @@ same-length-4 : tie.Need-same-length-4 Inv-loop μ-loop
 same-length-4 c = (c .before .before .before .before .before .before .before .before .before .before .step .kept) .1 .1 .1 .1 .1 .1 .0 ∙ (c .before .before .before .before .before .before .before .before .before .before .before .before .before .before .before .before .before .before .before .before .loop .inv .size .registers) ∙ sym (sizes _ (c .before .before .before .before .before .before .before .before .before .before .before .before .before .before .before .before .before .before .before .before .before .before .before .before .before .before .before .pre) .registers)
 
 returns : tie.Need-returns Inv-loop μ-loop
-returns c = step-stop _ _ _ _ _ _ (c .before .before .before .before .before .before .before .before .before .before .before .before .before .before .before .before .before .before .before .before .loop .inv) _ (c .before .before .before .before .before .before .before .before .before .before .before .before .before .before .before .before .before .before .before .loop-test .taken) (c .before .before .before .before .before .before .before .before .before .before .before .before .before .before .before .before .before .before .field-at .ensures) _ _ ((c .before .before .before .before .before .before .before .before .before .before .before .before .before .before .before .before .kind .given) .1) _ _ ((c .before .before .before .before .before .before .before .before .before .before .step .ensures) .0) ((c .before .before .before .before .before .before .before .before .before .before .step .ensures) .1) _ ((c .enum-told3 .given) .1)
+returns c = step-stop _ _ _ _ _ _ (c .before .before .before .before .before .before .before .before .before .before .before .before .before .before .before .before .before .before .before .before .loop .inv) _ (c .before .before .before .before .before .before .before .before .before .before .before .before .before .before .before .before .before .before .before .loop-test .taken) (c .before .before .before .before .before .before .before .before .before .before .before .before .before .before .before .before .before .before .field-at .ensures .0) _ _ ((c .before .before .before .before .before .before .before .before .before .before .before .before .before .before .before .before .kind .given) .1) _ _ ((c .before .before .before .before .before .before .before .before .before .before .step .ensures) .0) ((c .before .before .before .before .before .before .before .before .before .before .step .ensures) .1) _ ((c .enum-told3 .given) .1)
 
 add-count : tie.Need-add-count Inv-loop μ-loop
 add-count c = omega (arith, (c .before .before .before .before .before .before .before .before .before .before .before .before .before .before .before .before .before .before .before .before .before .loop .inv .few), (c .before .before .before .before .before .before .before .before .before .before .before .before .before .before .before .before .before .before .before .before .loop-test .taken), (c .before .before .before .before .before .before .before .before .before .before .before .before .before .before .before .before .before .before .before .before .before .before .before .before .before .before .before .before .good) .0)
@@ -91,45 +91,45 @@ enum-told-5 : tie.Need-enum-told-5 Inv-loop μ-loop
 enum-told-5 c = search needs
 
 loop-less : tie.Need-loop-less Inv-loop μ-loop
-loop-less c = omega (arith, next-after _ _ _ (c .before .before .before .before .before .loop-test .taken) (c .before .before .before .before .field-at .ensures), (c .before .before .before .before .before .loop-test .taken))
+loop-less c = omega (arith, next-after _ _ _ (c .before .before .before .before .before .loop-test .taken) (c .before .before .before .before .field-at .ensures .0), (c .before .before .before .before .before .loop-test .taken))
 
 loop-again : tie.Need-loop-again Inv-loop μ-loop
 unfolding stepVerdict controlOn fieldControl performed
-loop-again c = turn-on _ _ _ _ _ _ (c .before .before .before .before .before .before .loop .inv) _ (c .before .before .before .before .before .loop-test .taken) (c .before .before .before .before .field-at .ensures) _ ((c .before .before .enum-told .given) .1) (refl) (c .settle .ensures ∙ ap (settledBy _) (c .before .payload-at .ensures)) (refl) (omega arith)
+loop-again c = turn-on _ _ _ _ _ _ (c .before .before .before .before .before .before .loop .inv) _ (c .before .before .before .before .before .loop-test .taken) (c .before .before .before .before .field-at .ensures .0) _ ((c .before .before .enum-told .given) .1) (refl) (c .settle .ensures ∙ ap (settledBy _) (c .before .payload-at .ensures)) (refl) (omega arith)
 
 loop-less-2 : tie.Need-loop-less-2 Inv-loop μ-loop
-loop-less-2 c = omega (arith, next-after _ _ _ (c .before .before .before .before .before .before .before .before .before .before .before .before .before .before .before .before .before .before .before .before .loop-test .taken) (c .before .before .before .before .before .before .before .before .before .before .before .before .before .before .before .before .before .before .before .field-at .ensures), (c .before .before .before .before .before .before .before .before .before .before .before .before .before .before .before .before .before .before .before .before .loop-test .taken))
+loop-less-2 c = omega (arith, next-after _ _ _ (c .before .before .before .before .before .before .before .before .before .before .before .before .before .before .before .before .before .before .before .before .loop-test .taken) (c .before .before .before .before .before .before .before .before .before .before .before .before .before .before .before .before .before .before .before .field-at .ensures .0), (c .before .before .before .before .before .before .before .before .before .before .before .before .before .before .before .before .before .before .before .before .loop-test .taken))
 
 loop-again-2 : tie.Need-loop-again-2 Inv-loop μ-loop
-loop-again-2 c = step-on _ _ _ _ _ _ (c .before .before .before .before .before .before .before .before .before .before .before .before .before .before .before .before .before .before .before .before .before .loop .inv) _ (c .before .before .before .before .before .before .before .before .before .before .before .before .before .before .before .before .before .before .before .before .loop-test .taken) (c .before .before .before .before .before .before .before .before .before .before .before .before .before .before .before .before .before .before .before .field-at .ensures) _ _ ((c .before .before .before .before .before .before .before .before .before .before .before .before .before .before .before .before .before .kind .given) .1) _ _ ((c .before .before .before .before .before .before .before .before .before .before .before .step .ensures) .0) ((c .before .before .before .before .before .before .before .before .before .before .before .step .ensures) .1) ((c .before .enum-told2 .given) .1)
+loop-again-2 c = step-on _ _ _ _ _ _ (c .before .before .before .before .before .before .before .before .before .before .before .before .before .before .before .before .before .before .before .before .before .loop .inv) _ (c .before .before .before .before .before .before .before .before .before .before .before .before .before .before .before .before .before .before .before .before .loop-test .taken) (c .before .before .before .before .before .before .before .before .before .before .before .before .before .before .before .before .before .before .before .field-at .ensures .0) _ _ ((c .before .before .before .before .before .before .before .before .before .before .before .before .before .before .before .before .before .kind .given) .1) _ _ ((c .before .before .before .before .before .before .before .before .before .before .before .step .ensures) .0) ((c .before .before .before .before .before .before .before .before .before .before .before .step .ensures) .1) ((c .before .enum-told2 .given) .1)
 
 loop-less-3 : tie.Need-loop-less-3 Inv-loop μ-loop
-loop-less-3 c = omega (arith, next-after _ _ _ (c .before .before .before .before .before .loop-test .taken) (c .before .before .before .before .field-at .ensures), (c .before .before .before .before .before .loop-test .taken))
+loop-less-3 c = omega (arith, next-after _ _ _ (c .before .before .before .before .before .loop-test .taken) (c .before .before .before .before .field-at .ensures .0), (c .before .before .before .before .before .loop-test .taken))
 
 loop-again-3 : tie.Need-loop-again-3 Inv-loop μ-loop
 unfolding stepVerdict controlOn fieldControl performed
-loop-again-3 c = turn-on _ _ _ _ _ _ (c .before .before .before .before .before .before .loop .inv) _ (c .before .before .before .before .before .loop-test .taken) (c .before .before .before .before .field-at .ensures) _ ((c .before .before .kind2 .given) .1) (refl) ((c .hand-over .ensures)) (refl) (omega arith)
+loop-again-3 c = turn-on _ _ _ _ _ _ (c .before .before .before .before .before .before .loop .inv) _ (c .before .before .before .before .before .loop-test .taken) (c .before .before .before .before .field-at .ensures .0) _ ((c .before .before .kind2 .given) .1) (refl) ((c .hand-over .ensures)) (refl) (omega arith)
 
 loop-less-4 : tie.Need-loop-less-4 Inv-loop μ-loop
-loop-less-4 c = omega (arith, next-after _ _ _ (c .before .before .before .before .before .before .before .before .before .before .before .before .before .before .before .before .before .before .loop-test .taken) (c .before .before .before .before .before .before .before .before .before .before .before .before .before .before .before .before .before .field-at .ensures), (c .before .before .before .before .before .before .before .before .before .before .before .before .before .before .before .before .before .before .loop-test .taken))
+loop-less-4 c = omega (arith, next-after _ _ _ (c .before .before .before .before .before .before .before .before .before .before .before .before .before .before .before .before .before .before .loop-test .taken) (c .before .before .before .before .before .before .before .before .before .before .before .before .before .before .before .before .before .field-at .ensures .0), (c .before .before .before .before .before .before .before .before .before .before .before .before .before .before .before .before .before .before .loop-test .taken))
 
 loop-again-4 : tie.Need-loop-again-4 Inv-loop μ-loop
 unfolding stepVerdict controlOn fieldControl performed
-loop-again-4 c = turn-on _ _ _ _ _ _ (c .before .before .before .before .before .before .before .before .before .before .before .before .before .before .before .before .before .before .before .loop .inv) _ (c .before .before .before .before .before .before .before .before .before .before .before .before .before .before .before .before .before .before .loop-test .taken) (c .before .before .before .before .before .before .before .before .before .before .before .before .before .before .before .before .before .field-at .ensures) _ ((c .before .before .before .before .before .before .before .before .before .before .before .before .before .before .before .kind3 .given) .1) (refl) (refl) (written-by _ _ _ (c .before .before .before .before .before .before .before .before .write .ensures) (c .before .before .before .before .before .before .before .before .before .before .before .before .before .payload-at2 .ensures)) (omega arith)
+loop-again-4 c = turn-on _ _ _ _ _ _ (c .before .before .before .before .before .before .before .before .before .before .before .before .before .before .before .before .before .before .before .loop .inv) _ (c .before .before .before .before .before .before .before .before .before .before .before .before .before .before .before .before .before .before .loop-test .taken) (c .before .before .before .before .before .before .before .before .before .before .before .before .before .before .before .before .before .field-at .ensures .0) _ ((c .before .before .before .before .before .before .before .before .before .before .before .before .before .before .before .kind3 .given) .1) (refl) (refl) (written-by _ _ _ (c .before .before .before .before .before .before .before .before .write .ensures) (c .before .before .before .before .before .before .before .before .before .before .before .before .before .payload-at2 .ensures)) (omega arith)
 
 loop-less-5 : tie.Need-loop-less-5 Inv-loop μ-loop
-loop-less-5 c = omega (arith, next-after _ _ _ (c .before .before .before .loop-test .taken) (c .before .before .field-at .ensures), (c .before .before .before .loop-test .taken))
+loop-less-5 c = omega (arith, next-after _ _ _ (c .before .before .before .loop-test .taken) (c .before .before .field-at .ensures .0), (c .before .before .before .loop-test .taken))
 
 loop-again-5 : tie.Need-loop-again-5 Inv-loop μ-loop
 unfolding stepVerdict controlOn fieldControl performed
-loop-again-5 c = turn-on _ _ _ _ _ _ (c .before .before .before .before .loop .inv) _ (c .before .before .before .loop-test .taken) (c .before .before .field-at .ensures) _ ((c .enum-told4 .given) .1) (refl) (refl) (refl) (omega arith)
+loop-again-5 c = turn-on _ _ _ _ _ _ (c .before .before .before .before .loop .inv) _ (c .before .before .before .loop-test .taken) (c .before .before .field-at .ensures .0) _ ((c .enum-told4 .given) .1) (refl) (refl) (refl) (omega arith)
 
 loop-less-6 : tie.Need-loop-less-6 Inv-loop μ-loop
-loop-less-6 c = omega (arith, next-after _ _ _ (c .before .before .before .loop-test .taken) (c .before .before .field-at .ensures), (c .before .before .before .loop-test .taken))
+loop-less-6 c = omega (arith, next-after _ _ _ (c .before .before .before .loop-test .taken) (c .before .before .field-at .ensures .0), (c .before .before .before .loop-test .taken))
 
 loop-again-6 : tie.Need-loop-again-6 Inv-loop μ-loop
 unfolding stepVerdict controlOn fieldControl performed
-loop-again-6 c = turn-on _ _ _ _ _ _ (c .before .before .before .before .loop .inv) _ (c .before .before .before .loop-test .taken) (c .before .before .field-at .ensures) _ ((c .enum-told5 .given) .1) (refl) (refl) (refl) (omega arith)
+loop-again-6 c = turn-on _ _ _ _ _ _ (c .before .before .before .before .loop .inv) _ (c .before .before .before .loop-test .taken) (c .before .before .field-at .ensures .0) _ ((c .enum-told5 .given) .1) (refl) (refl) (refl) (omega arith)
 
 same-length-5 : tie.Need-same-length-5 Inv-loop μ-loop
 same-length-5 c = (c .before .loop .inv .size .srca) ∙ sym (sizes _ (c .before .before .before .before .before .before .before .before .pre) .srca)

@@ -1,28 +1,21 @@
 -- `job::fields::field_at` meets its contract: a cut field, or its payload read. Assumes nothing.
-use Rattle.job.specs.Fields.{endAt, fieldAt}
-use Prim.Native.Nat.{_<_, _≤_}
-use lib.ListN.{length}
+use Rattle.job.proofs.Answered.{field-cut, field-whole, field-answered}
 use denote.Ref.{now}
-use borrow.Author.Tests.{lt-leb, le-leb}
 use native.Mathlib.Omega.{arith}
-use native.Mathlib.Nat.{add-sub-cancel-left}
+use mathlib.Core.Path.{_∙_}
 use borrow.Author.Needs.{needs}
 use Rattle.job.proofs.fields.field_at.Statement.{statement}
 use Rattle.job.proofs.fields.field_at.Tie as tie
 
 returns : tie.Need-returns
-unfolding fieldAt
 returns c =
     let a = c .before .before .args in
-    let h : length (now (a .job)) < endAt (now (a .job)) (a .at) = omega arith in
-    simp (lt-leb _ _ h)
+    field-answered _ _ _ (field-cut (now (a .job)) (a .at) (omega arith))
 
 returns-2 : tie.Need-returns-2
-unfolding fieldAt
 returns-2 c =
     let a = c .before .before .before .args in
-    let h : length (now (a .job)) < endAt (now (a .job)) (a .at) = omega arith in
-    simp (lt-leb _ _ h)
+    field-answered _ _ _ (field-cut (now (a .job)) (a .at) (omega arith))
 
 add-b : tie.Need-add-b
 add-b c = search needs
@@ -40,11 +33,9 @@ sub-if3 : tie.Need-sub-if3
 sub-if3 c = search needs
 
 returns-3 : tie.Need-returns-3
-unfolding fieldAt
 returns-3 c =
     let a = c .before .before .before .before .before .args in
-    let h : length (now (a .job)) < endAt (now (a .job)) (a .at) = omega arith in
-    simp (lt-leb _ _ h)
+    field-answered _ _ _ (field-cut (now (a .job)) (a .at) (omega arith))
 
 add-e : tie.Need-add-e
 add-e c = search needs
@@ -65,11 +56,9 @@ read-field-requires : tie.Need-read-field-requires
 read-field-requires c κs = search needs
 
 returns-4 : tie.Need-returns-4
-unfolding fieldAt
 returns-4 c =
     let a = c .before .before .before .before .before .before .before .before .args in
-    let h : endAt (now (a .job)) (a .at) ≤ length (now (a .job)) = omega arith in
-    simp (le-leb _ _ h, c .read-field .ensures, (c .before .before .before .before .read2 .ensures) .0, add-sub-cancel-left)
+    field-answered _ _ _ (c .read-field .ensures ∙ field-whole (now (a .job)) (a .at) _ ((c .before .before .before .before .read2 .ensures) .0) (omega arith))
 
 pub field-at-spec : {M : Type 1} → statement M
 field-at-spec =

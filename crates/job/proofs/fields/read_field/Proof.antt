@@ -44,7 +44,7 @@ returns c = simp ((c .before .match .keys1), (c .read-settings .ensures))
 
 returns-2 : tie.Need-returns-2
 unfolding readKind
-returns-2 c = simp (c .before .before .match .keys2, c .read-load-rows .ensures, c .before .«job-width» .ensures)
+returns-2 c = simp (c .before .before .match .keys2, c .read-load-rows .ensures, c .before .«job-width» .ensures .0)
 
 returns-3 : tie.Need-returns-3
 unfolding readKind
@@ -60,7 +60,7 @@ returns-5 c = simp ((c .before .match .keys5), (c .read-issue .ensures))
 
 returns-6 : tie.Need-returns-6
 unfolding readKind
-returns-6 c = simp (c .before .before .match .keys6, c .read-output-rows .ensures, c .before .«job-width2» .ensures)
+returns-6 c = simp (c .before .before .match .keys6, c .read-output-rows .ensures, c .before .«job-width2» .ensures .0)
 
 returns-7 : tie.Need-returns-7
 unfolding readKind
@@ -68,7 +68,7 @@ returns-7 c = simp ((c .before .match .keys7), (c .read-output-register .ensures
 
 returns-8 : tie.Need-returns-8
 unfolding readKind
-returns-8 c = simp (c .before .before .match .keys8, c .read-zero-rows .ensures, c .before .«job-width3» .ensures)
+returns-8 c = simp (c .before .before .match .keys8, c .read-zero-rows .ensures, c .before .«job-width3» .ensures .0)
 
 returns-9 : tie.Need-returns-9
 unfolding readKind

@@ -1,10 +1,10 @@
 -- `job::stages::find_shape` meets its contract. Assumes nothing.
-use Rattle.job.proofs.Shaped.{shape-on, shape-wrong, shape-end}
-use borrow.Author.Tests.{lt-leb, le-leb}
+use Rattle.job.proofs.Answered.{shape-answered}
+use Rattle.job.proofs.Shaped.{shape-on, shape-wrong, shape-end, shape-long, shape-short}
 use mathlib.Core.Path.{sym, _∙_}
 use Rattle.job.proofs.Walk.{Reached, reached-first, reached-end, reached-stop, reached-on, next-after}
 use Rattle.job.specs.declared.stages.Stage.the-variants.{Opening}
-use Rattle.job.specs.Shape.{shapeFrom, shapeOf}
+use Rattle.job.specs.Shape.{shapeFrom}
 use native.Mathlib.Omega.{arith}
 use Prim.Native.Nat.{_-_}
 use lib.ListN.{length}
@@ -19,8 +19,7 @@ abbrev μ-loop : tie.MeasureT-loop
 μ-loop job n at₀ stage₀ at stage = length job - at
 
 returns : tie.Need-returns Inv-loop μ-loop
-unfolding shapeOf
-returns c = simp (lt-leb _ _ (c .if1 .taken))
+returns c = shape-answered _ _ (sym (shape-long _ (c .if1 .taken)))
 
 loop-holds : tie.Need-loop-holds Inv-loop μ-loop
 loop-holds c = reached-first _ _ _ _
@@ -38,21 +37,19 @@ enum-told : tie.Need-enum-told Inv-loop μ-loop
 enum-told c = search needs
 
 returns-2 : tie.Need-returns-2 Inv-loop μ-loop
-unfolding shapeOf
-returns-2 c = simp (le-leb _ _ (c .before .before .before .before .before .before .if1 .left)) (reached-stop _ _ (c .before .before .before .before .before .loop .inv) _ (c .before .before .before .before .loop-test .taken) (c .before .before .before .field-at .ensures) _ (shape-wrong _ _ _ _ _ (sym (c .before .before .place-field .ensures) ∙ (c .enum-told .given) .1)))
+returns-2 c = shape-answered _ _ (reached-stop _ _ (c .before .before .before .before .before .loop .inv) _ (c .before .before .before .before .loop-test .taken) (c .before .before .before .field-at .ensures .0) _ (shape-wrong _ _ _ _ _ (sym (c .before .before .place-field .ensures) ∙ (c .enum-told .given) .1)) ∙ sym (shape-short _ (c .before .before .before .before .before .before .if1 .left)))
 
 loop-less : tie.Need-loop-less Inv-loop μ-loop
-loop-less c = omega (arith, next-after _ _ _ (c .before .before .before .before .before .loop-test .taken) (c .before .before .before .before .field-at .ensures))
+loop-less c = omega (arith, next-after _ _ _ (c .before .before .before .before .before .loop-test .taken) (c .before .before .before .before .field-at .ensures .0))
 
 loop-again : tie.Need-loop-again Inv-loop μ-loop
-loop-again c = reached-on _ _ (c .before .before .before .before .before .before .loop .inv) _ (c .before .before .before .before .before .loop-test .taken) (c .before .before .before .before .field-at .ensures) _ (shape-on _ _ _ _ _ (sym (c .before .before .before .place-field .ensures) ∙ (c .before .next .given) .1))
+loop-again c = reached-on _ _ (c .before .before .before .before .before .before .loop .inv) _ (c .before .before .before .before .before .loop-test .taken) (c .before .before .before .before .field-at .ensures .0) _ (shape-on _ _ _ _ _ (sym (c .before .before .before .place-field .ensures) ∙ (c .before .next .given) .1))
 
 shape-at-end-requires : tie.Need-shape-at-end-requires Inv-loop μ-loop
 shape-at-end-requires c κs = search needs
 
 returns-3 : tie.Need-returns-3 Inv-loop μ-loop
-unfolding shapeOf
-returns-3 c = simp (le-leb _ _ (c .before .before .before .if1 .left), (c .shape-at-end .ensures)) (reached-end _ _ (c .before .before .loop .inv) _ (c .before .loop-test .left) (shape-end _ _))
+returns-3 c = shape-answered _ _ ((c .shape-at-end .ensures) ∙ reached-end _ _ (c .before .before .loop .inv) _ (c .before .loop-test .left) (shape-end _ _) ∙ sym (shape-short _ (c .before .before .before .if1 .left)))
 
 pub find-shape-spec : {M : Type 1} → statement M
 find-shape-spec =

@@ -43,58 +43,58 @@ line-count-requires : tie.Need-line-count-requires Inv-loop μ-loop
 line-count-requires c κs = search needs
 
 what-at-requires : tie.Need-what-at-requires Inv-loop μ-loop
-what-at-requires c κs = (subst InRange ((c .before .before .before .kind .given) .1) (rw (c .before .before .before .before .before .field-at .ensures) (field-in-range _ _)), rw (c .before .line-count .ensures) at (c .if1 .taken))
+what-at-requires c κs = (subst InRange ((c .before .before .before .kind .given) .1) (rw (c .before .before .before .before .before .field-at .ensures .0) (field-in-range _ _)), rw (c .before .line-count .ensures) at (c .if1 .taken))
 
 add-t14 : tie.Need-add-t14 Inv-loop μ-loop
 add-t14 c = search needs
 
 returns : tie.Need-returns Inv-loop μ-loop
 unfolding nextLine
-returns c = rw (c .what-at .ensures) (reached-stop _ _ (c .before .before .before .before .before .before .before .before .loop .inv) _ (c .before .before .before .before .before .before .before .loop-test .taken) (c .before .before .before .before .before .before .field-at .ensures) _ (next-here _ _ _ _ ((c .before .before .before .before .kind .given) .1) _ (c .before .before .line-count .ensures) (c .before .if1 .taken)))
+returns c = rw (c .what-at .ensures) (reached-stop _ _ (c .before .before .before .before .before .before .before .before .loop .inv) _ (c .before .before .before .before .before .before .before .loop-test .taken) (c .before .before .before .before .before .before .field-at .ensures .0) _ (next-here _ _ _ _ ((c .before .before .before .before .kind .given) .1) _ (c .before .before .line-count .ensures) (c .before .if1 .taken)))
 
 enum-told-5 : tie.Need-enum-told-5 Inv-loop μ-loop
 enum-told-5 c = search needs
 
 loop-less : tie.Need-loop-less Inv-loop μ-loop
-loop-less c = omega (arith, next-after _ _ _ (c .before .before .before .loop-test .taken) (c .before .before .field-at .ensures))
+loop-less c = omega (arith, next-after _ _ _ (c .before .before .before .loop-test .taken) (c .before .before .field-at .ensures .0))
 
 loop-again : tie.Need-loop-again Inv-loop μ-loop
 unfolding nextIn
-loop-again c = reached-on _ _ (c .before .before .before .before .loop .inv) _ (c .before .before .before .loop-test .taken) (c .before .before .field-at .ensures) _ (next-silent _ _ _ _ ((c .enum-told .given) .1) (λ rest. refl))
+loop-again c = reached-on _ _ (c .before .before .before .before .loop .inv) _ (c .before .before .before .loop-test .taken) (c .before .before .field-at .ensures .0) _ (next-silent _ _ _ _ ((c .enum-told .given) .1) (λ rest. refl))
 
 loop-less-2 : tie.Need-loop-less-2 Inv-loop μ-loop
-loop-less-2 c = omega (arith, next-after _ _ _ (c .before .before .before .loop-test .taken) (c .before .before .field-at .ensures))
+loop-less-2 c = omega (arith, next-after _ _ _ (c .before .before .before .loop-test .taken) (c .before .before .field-at .ensures .0))
 
 loop-again-2 : tie.Need-loop-again-2 Inv-loop μ-loop
 unfolding nextIn
-loop-again-2 c = reached-on _ _ (c .before .before .before .before .loop .inv) _ (c .before .before .before .loop-test .taken) (c .before .before .field-at .ensures) _ (next-silent _ _ _ _ ((c .enum-told2 .given) .1) (λ rest. refl))
+loop-again-2 c = reached-on _ _ (c .before .before .before .before .loop .inv) _ (c .before .before .before .loop-test .taken) (c .before .before .field-at .ensures .0) _ (next-silent _ _ _ _ ((c .enum-told2 .given) .1) (λ rest. refl))
 
 loop-less-3 : tie.Need-loop-less-3 Inv-loop μ-loop
-loop-less-3 c = omega (arith, next-after _ _ _ (c .before .before .before .loop-test .taken) (c .before .before .field-at .ensures))
+loop-less-3 c = omega (arith, next-after _ _ _ (c .before .before .before .loop-test .taken) (c .before .before .field-at .ensures .0))
 
 loop-again-3 : tie.Need-loop-again-3 Inv-loop μ-loop
 unfolding nextIn
-loop-again-3 c = reached-on _ _ (c .before .before .before .before .loop .inv) _ (c .before .before .before .loop-test .taken) (c .before .before .field-at .ensures) _ (next-silent _ _ _ _ ((c .enum-told3 .given) .1) (λ rest. refl))
+loop-again-3 c = reached-on _ _ (c .before .before .before .before .loop .inv) _ (c .before .before .before .loop-test .taken) (c .before .before .field-at .ensures .0) _ (next-silent _ _ _ _ ((c .enum-told3 .given) .1) (λ rest. refl))
 
 loop-less-4 : tie.Need-loop-less-4 Inv-loop μ-loop
-loop-less-4 c = omega (arith, next-after _ _ _ (c .before .before .before .loop-test .taken) (c .before .before .field-at .ensures))
+loop-less-4 c = omega (arith, next-after _ _ _ (c .before .before .before .loop-test .taken) (c .before .before .field-at .ensures .0))
 
 loop-again-4 : tie.Need-loop-again-4 Inv-loop μ-loop
 unfolding nextIn
-loop-again-4 c = reached-on _ _ (c .before .before .before .before .loop .inv) _ (c .before .before .before .loop-test .taken) (c .before .before .field-at .ensures) _ (next-silent _ _ _ _ ((c .enum-told4 .given) .1) (λ rest. refl))
+loop-again-4 c = reached-on _ _ (c .before .before .before .before .loop .inv) _ (c .before .before .before .loop-test .taken) (c .before .before .field-at .ensures .0) _ (next-silent _ _ _ _ ((c .enum-told4 .given) .1) (λ rest. refl))
 
 loop-less-5 : tie.Need-loop-less-5 Inv-loop μ-loop
-loop-less-5 c = omega (arith, next-after _ _ _ (c .before .before .before .before .before .before .loop-test .taken) (c .before .before .before .before .before .field-at .ensures))
+loop-less-5 c = omega (arith, next-after _ _ _ (c .before .before .before .before .before .before .loop-test .taken) (c .before .before .before .before .before .field-at .ensures .0))
 
 loop-again-5 : tie.Need-loop-again-5 Inv-loop μ-loop
-loop-again-5 c = reached-on _ _ (c .before .before .before .before .before .before .before .loop .inv) _ (c .before .before .before .before .before .before .loop-test .taken) (c .before .before .before .before .before .field-at .ensures) _ (next-on _ _ _ _ ((c .before .before .before .kind .given) .1) _ (c .before .line-count .ensures) (c .if1 .left))
+loop-again-5 c = reached-on _ _ (c .before .before .before .before .before .before .before .loop .inv) _ (c .before .before .before .before .before .before .loop-test .taken) (c .before .before .before .before .before .field-at .ensures .0) _ (next-on _ _ _ _ ((c .before .before .before .kind .given) .1) _ (c .before .line-count .ensures) (c .if1 .left))
 
 loop-less-6 : tie.Need-loop-less-6 Inv-loop μ-loop
-loop-less-6 c = omega (arith, next-after _ _ _ (c .before .before .before .loop-test .taken) (c .before .before .field-at .ensures))
+loop-less-6 c = omega (arith, next-after _ _ _ (c .before .before .before .loop-test .taken) (c .before .before .field-at .ensures .0))
 
 loop-again-6 : tie.Need-loop-again-6 Inv-loop μ-loop
 unfolding nextIn
-loop-again-6 c = reached-on _ _ (c .before .before .before .before .loop .inv) _ (c .before .before .before .loop-test .taken) (c .before .before .field-at .ensures) _ (next-silent _ _ _ _ ((c .enum-told5 .given) .1) (λ rest. refl))
+loop-again-6 c = reached-on _ _ (c .before .before .before .before .loop .inv) _ (c .before .before .before .loop-test .taken) (c .before .before .field-at .ensures .0) _ (next-silent _ _ _ _ ((c .enum-told5 .given) .1) (λ rest. refl))
 
 returns-2 : tie.Need-returns-2 Inv-loop μ-loop
 unfolding nextLine
