@@ -20,7 +20,7 @@ use Rattle.cells.specs.Layout.{threadCount}
 use Rattle.cells.specs.State.{State, sized}
 use Rattle.cells.proofs.Cells.{split, both}
 use Rattle.cells.proofs.Sizes.{Sizes, sizes, sized-of, unsized}
-use Rattle.step.specs.Step.{verdictOf, steppedOf, stateOf}
+use Rattle.step.specs.Step.{verdictOf, steppedOf, stateOf, stepAnswer}
 use Rattle.demand.specs.Breaks.{brokenRule}
 use Rattle.demand.specs.Demand.{stepNumbers, Lengths, StepDemand1}
 use Rattle.demand.specs.RecordRange.{RecordIn}

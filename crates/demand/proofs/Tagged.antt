@@ -3,7 +3,7 @@
 use mathlib.Core.Path.{_≡_, refl, sym, ap, _∙_}
 use mathlib.Core.Bool.{Bool, true, false, cond}
 use mathlib.Core.List.{List, [], _∷_, _++_, append-nil, append-assoc}
-use Prim.Native.Nat.{ℕ, suc, _+_, _/_, _%_, _^_, _≤_, _<_}
+use Prim.Native.Nat.{ℕ, zero, suc, _+_, _/_, _%_, _^_, _≤_, _<_}
 use native.Mathlib.Omega.{arith}
 use borrow.Author.Tests.{eqb-true, eqb-false, eq-eqb, ne-eqb}
 use lib.Dec.{eqb}
@@ -118,8 +118,17 @@ module _ (job : List ℕ) where
 
   -- ---- the width
 
+  even-small : (d : ℕ) → d < 2 → (d % 2 ≡ 1 → ⊥) → d ≡ 0
+  even-small zero l h = refl
+  even-small (suc zero) l h = absurd (h refl)
+  even-small (suc (suc d)) l h = absurd (omega arith)
+
   flag-bits : (n : ℕ) → n < 8 → bit n 0 ≡ false → bit n 1 ≡ false → bit n 2 ≡ false → n ≡ 0
-  flag-bits n h a b c = omega (arith, eqb-false (n / 2 ^ 0 % 2) 1 a, eqb-false (n / 2 ^ 1 % 2) 1 b, eqb-false (n / 2 ^ 2 % 2) 1 c)
+  flag-bits n h a b c =
+      let z = even-small (n / 4) (omega arith) (eqb-false (n / 4 % 2) 1 c) in
+      let y = even-small (n / 2) (omega (arith, z)) (eqb-false (n / 2 % 2) 1 b) in
+      let x = even-small (n / 1) (omega (arith, y)) (eqb-false (n / 1 % 2) 1 a) in
+      omega (arith, x)
 
   module _ (w : WellShaped job) where
     -- the settings' payload stands from byte 3 on

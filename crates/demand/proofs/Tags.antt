@@ -27,7 +27,8 @@ use Rattle.job.specs.declared.Write.{Write}
 use Rattle.job.specs.declared.Write.the-variants as write
 use Rattle.job.specs.declared.Output.{Output}
 use Rattle.job.specs.declared.Output.the-variants as output
-use Rattle.job.proofs.Says.{fileNumber, WriteSays, OutputSays, Says, says}
+use Rattle.job.specs.Answers.{fileNumber}
+use Rattle.job.proofs.Says.{WriteSays, OutputSays, Says, says}
 use Rattle.demand.proofs.Ranges.{upto, least}
 use Rattle.demand.specs.WellShaped as shape
 use Rattle.demand.specs.WellShaped.{FieldBytes, SlotIn, ThreadIn, SettingsIn, RowsInside, ValuesIn, FileIn, LoadRowsIn, RegisterNamed, HandOverIn, IssueIn, OutputRowsIn, ZeroRowsIn, Settles, Prints, Acts}
