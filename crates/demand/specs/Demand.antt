@@ -75,7 +75,8 @@ Unbroken job = (k : ℕ) (r : Refusal) → breaks job start (unset (jobWidth job
 abbrev pub meeting : List ℕ → State → ℕ → Option Meeting
 meeting job s k = meetingAt job (fieldsFrom job 0) start (unset (jobWidth job)) s k
 
--- why a job is turned down: with 1 at the first wrong place of its shape; or, that being right, by its first field that breaks a rule with its lowest number
+-- why a job is turned down: with 1 at the first wrong place of its shape; or, that being right, by its first field that breaks a rule, with the
+-- lowest number that it breaks
 pub data Named (job : List ℕ) (r : Refusal) (p : ℕ) : Type 0 where
   shape : r ≡ Shape → FirstWrong job p → Named job r p
   rule : WellShaped job → FirstBroken job start (unset (jobWidth job)) (fieldsFrom job 0) r p → Named job r p
@@ -108,7 +109,8 @@ pub record Demand3 (job : List ℕ) : Type 0 where
   pub refuses : (r : Refusal) (p : ℕ) → precheckOf job ≡ checked.Refused r p → (s : State) → Lengths s → runOf job s ≡ ran (Refused r p) s
   -- other permitted values in the load fields leave the answer as it is; where the shape is wrong, in those before its first wrong place
   pub values : WellShaped job → (other : List ℕ) → OtherValues (λ f. true) job other → precheckOf other ≡ precheckOf job
-  pub values-before : (p : ℕ) → FirstWrong job p → (other : List ℕ) → OtherValues (λ f. ltb (f .place) p) job other → precheckOf other ≡ precheckOf job
+  pub values-before : (p : ℕ) → FirstWrong job p
+      → (other : List ℕ) → OtherValues (λ f. ltb (f .place) p) job other → precheckOf other ≡ precheckOf job
 
 -- ---- demand 1: a refusal is a number of the table, leaves every lent number as it stood, and prints no row
 
@@ -179,7 +181,8 @@ pub record WordModes (c : Control) (t w : ℕ) : Type 0 where
   pub step : InBf16 (c .settings) → (s : State) (r : Refusal) → verdictOf c t w s ≡ verdict.Refused r → numberOf r ≢ 7
 
 pub record JobModes (job : List ℕ) : Type 0 where
-  -- in a job of right shape, fields go by the width of the record that its settings make: of 16-bit rows exactly when the settings, whose payload begins at byte 3, have format 2 and no flag
+  -- in a job of right shape, fields go by the width of the record that its settings make: rows are of 16 bits exactly when the settings, whose payload
+  -- begins at byte 3, have format 2 and no flag
   pub halves : WellShaped job → getD job 3 0 ≡ 2 → getD job 4 0 ≡ 0 → jobWidth job ≡ Bits16
   pub bytes : WellShaped job → jobWidth job ≡ Bits16 → (getD job 3 0 ≡ 2) × (getD job 4 0 ≡ 0)
   pub width : WellShaped job → jobWidth job ≡ widthOf (settled start (payloadAt job 0) .settings)

@@ -25,7 +25,8 @@ pub record Meeting : Type 0 where
   pub marks : Marks
   pub state : State
 
--- what field k meets, the first of the list meeting c, m and s; after an instruction the record is the one that the single step gives back (`controlOn`)
+-- what field k meets, the first of the list meeting c, m and s; after an instruction the record is the one that the single step gives back
+-- (`controlOn`)
 unfoldable pub meetingAt : List ℕ → List Field → Control → Marks → State → ℕ → Option Meeting
 meetingAt job [] c m s k = none
 meetingAt job (f ∷ fs) c m s zero = some (record { field = f; control = c; marks = m; state = s })

@@ -21,7 +21,7 @@ use Rattle.run.specs.declared.Outcome.the-variants.{Finished, Refused}
 use Rattle.lines.specs.Lines.{Line}
 use Rattle.lines.specs.Text.{made, Holds, textOf, lineOf, finishedText, refusedText}
 use Rattle.lines.specs.Printed.{Printed, finished, refused, line, printedBy, printedText}
-use Rattle.lines.specs.Cursor.{startCursor, answeredCursor, lineCursor, linesAt, lineCount, whatAt, nextIn, nextFrom, nextLine, give, nextEnd, lineNext, nextOf, printedFrom, First, Gives, wroteOn, written}
+use Rattle.lines.specs.Cursor.{startCursor, answeredCursor, lineCursor, linesAt, lineCount, whatAt, nextIn, nextFrom, nextLine, give, nextEnd, lineNext, nextOf, printedFrom, First, Gives, textThen, loopTexts}
 use Rattle.lines.specs.declared.Cursor.{Cursor}
 use Rattle.lines.specs.declared.Text.{Text}
 use Rattle.lines.specs.declared.Next.{Next}
@@ -106,43 +106,43 @@ module _ (job : List ℕ) (s : State) where
 
   -- what comes next, and what is left after it
   turn-line : (n : ℕ) (c : Cursor) → c .answered ≡ true → (f : Found) → nextLine job c ≡ f
-      → texts (left (Finished n) c) ≡ wroteOn (lineNext c f (s .dst) (s .registers)) (λ d. texts (left (Finished n) d))
-  unfolding wroteOn lineNext
+      → texts (left (Finished n) c) ≡ textThen (lineNext c f (s .dst) (s .registers)) (λ d. texts (left (Finished n) d))
+  unfolding textThen lineNext
   turn-line n c a (found.Line w d) e = ap texts (first-line n c a w d e)
   turn-line n c a found.End e = ap texts (last-line n c a e)
 
-  turn : (o : Outcome) (c : Cursor) → texts (left o c) ≡ wroteOn (nextOf job o c (s .dst) (s .registers)) (λ d. texts (left o d))
-  unfolding nextOf wroteOn
+  turn : (o : Outcome) (c : Cursor) → texts (left o c) ≡ textThen (nextOf job o c (s .dst) (s .registers)) (λ d. texts (left o d))
+  unfolding nextOf textThen
   turn (Finished n) c =
       split (c .answered)
       (λ a. turn-line n c a (nextLine job c) refl ∙ ap on-to (sym (when-true (c .answered) _ _ a)))
       (λ a. ap texts (first-finished n c a) ∙ ap on-to (sym (when-false (c .answered) _ _ a)))
     where
       on-to : Next → List Text
-      on-to x = wroteOn x (λ d. texts (left (Finished n) d))
+      on-to x = textThen x (λ d. texts (left (Finished n) d))
   turn (Refused r place) c =
       split (c .answered)
       (λ a. ap texts (last-refused r place c a) ∙ ap on-to (sym (when-true (c .answered) _ _ a)))
       (λ a. ap texts (first-refused r place c a) ∙ ap on-to (sym (when-false (c .answered) _ _ a)))
     where
       on-to : Next → List Text
-      on-to x = wroteOn x (λ d. texts (left (Refused r place) d))
+      on-to x = textThen x (λ d. texts (left (Refused r place) d))
 
   nothing : (l : List Text) → length l ≤ 0 → l ≡ []
   nothing [] h = refl
   nothing (x ∷ l) h = absurd (omega arith)
 
-  on : (n : ℕ) (o : Outcome) (x : Next) → ((d : Cursor) → length (texts (left o d)) ≤ n → written n job o d s ≡ texts (left o d))
-      → length (wroteOn x (λ d. texts (left o d))) ≤ suc n → wroteOn x (λ d. written n job o d s) ≡ wroteOn x (λ d. texts (left o d))
-  unfolding wroteOn
+  on : (n : ℕ) (o : Outcome) (x : Next) → ((d : Cursor) → length (texts (left o d)) ≤ n → loopTexts n job o d s ≡ texts (left o d))
+      → length (textThen x (λ d. texts (left o d))) ≤ suc n → textThen x (λ d. loopTexts n job o d s) ≡ textThen x (λ d. texts (left o d))
+  unfolding textThen
   on n o x ih h =
       split (x .end) (λ e. rw e)
       (λ e.
       let l : length (x .text ∷ texts (left o (x .after))) ≤ suc n = rw e at h in
       rw e (ap (λ (l : List Text). x .text ∷ l) (ih (x .after) (omega arith))))
 
-  written-from : (n : ℕ) (o : Outcome) (c : Cursor) → length (texts (left o c)) ≤ n → written n job o c s ≡ texts (left o c)
-  unfolding written
+  written-from : (n : ℕ) (o : Outcome) (c : Cursor) → length (texts (left o c)) ≤ n → loopTexts n job o c s ≡ texts (left o c)
+  unfolding loopTexts
   written-from zero o c h = sym (nothing (texts (left o c)) h)
   written-from (suc n) o c h =
       on n o (nextOf job o c (s .dst) (s .registers)) (written-from n o) (rw (turn o c) at h) ∙ sym (turn o c)
@@ -153,7 +153,7 @@ module _ (job : List ℕ) (s : State) where
   all-left (Refused r place) = refl
 
   -- from the start, in turns enough: the text of all that is printed, each once, in order
-  pub written-all : (n : ℕ) (o : Outcome) → length (texts (printedBy job o s)) ≤ n → written n job o startCursor s ≡ texts (printedBy job o s)
+  pub written-all : (n : ℕ) (o : Outcome) → length (texts (printedBy job o s)) ≤ n → loopTexts n job o startCursor s ≡ texts (printedBy job o s)
   written-all n o h = written-from n o startCursor (rw (all-left o) h) ∙ ap texts (all-left o)
 
 -- ---- what `next_text` gives, and that it is the definition's

@@ -108,10 +108,10 @@ pub record Gives (job : List ℕ) (o : Outcome) (s : State) (c : Cursor) (x : Ne
   pub ended : x .end ≡ true → printedFrom job o c s ≡ []
 
 -- a text, and those that come after it
-unfoldable pub wroteOn : Next → (Cursor → List Text) → List Text
-wroteOn x rest = cond (x .end) [] (x .text ∷ rest (x .after))
+unfoldable pub textThen : Next → (Cursor → List Text) → List Text
+textThen x rest = cond (x .end) [] (x .text ∷ rest (x .after))
 
 -- what a program's loop writes, in at most n turns
-unfoldable pub written : ℕ → List ℕ → Outcome → Cursor → State → List Text
-written zero job o c s = []
-written (suc n) job o c s = wroteOn (nextOf job o c (s .dst) (s .registers)) (λ d. written n job o d s)
+unfoldable pub loopTexts : ℕ → List ℕ → Outcome → Cursor → State → List Text
+loopTexts zero job o c s = []
+loopTexts (suc n) job o c s = textThen (nextOf job o c (s .dst) (s .registers)) (λ d. loopTexts n job o d s)
