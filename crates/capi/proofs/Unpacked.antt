@@ -1,56 +1,29 @@
 -- Whatever the job, the record and the lent numbers, a caller gets the very answer back out of the packed number: `precheck-unpacked`,
 -- `run-unpacked`, `step-unpacked`. For this, a place and a count are at most 8,192. Assumes nothing.
 use mathlib.Core.Path.{_≡_, refl}
-use mathlib.Core.Bool.{true}
-use mathlib.Core.List.{List, [], _∷_}
-use Prim.Native.Nat.{ℕ, zero, suc, _+_, _*_, _/_, _%_, _<_, _≤_}
+use mathlib.Core.List.{List}
+use Prim.Native.Nat.{ℕ, _+_, _*_, _/_, _%_, _<_, _≤_}
 use native.Mathlib.Omega.{arith}
-use borrow.Author.Tests.{ltb-true, ltb-false, lt-ltb, le-ltb, ne-eqb}
-use lib.Dec.{ltb}
-use lib.ListN.{length}
+use borrow.Author.Tests.{lt-ltb, le-ltb, ne-eqb}
 use Rattle.cells.specs.Layout.{jobBytes}
-use Rattle.cells.proofs.Cells.{split}
 use Rattle.word.proofs.Numbers.{number-byte}
-use Rattle.word.specs.Refusal.{numberOf, Answer, done, passed, finished, refused}
-use Rattle.word.specs.declared.Refusal.the-variants as refusal
+use Rattle.word.specs.Refusal.{numberOf, Answer, passed, finished, refused}
 use Rattle.control.specs.declared.Control.{Control}
-use Rattle.control.specs.Record.{start}
-use Rattle.rules.specs.Rules.{lowest, verdictAnswer}
+use Rattle.rules.specs.Rules.{verdictAnswer}
 use Rattle.rules.specs.declared.Verdict.{Verdict}
 use Rattle.rules.specs.declared.Verdict.the-variants as verdict
-use Rattle.cells.specs.State.{State, sized}
+use Rattle.cells.specs.State.{State}
 use Rattle.step.specs.Step.{steppedOf, stepAnswer}
-use Rattle.job.specs.Fields.{jobWidth, fieldAt, fieldsFrom}
-use Rattle.job.specs.Shape.{shapeOf}
-use Rattle.job.specs.declared.Field.{Field}
-use Rattle.job.specs.declared.Shape.{Shape}
-use Rattle.job.specs.declared.Shape.the-variants as shape
-use Rattle.job.proofs.Walk.{grows, ends, place-at, fields-end, fields-step}
-use Rattle.job.proofs.Shaped.{shaped, shape-inside}
-use Rattle.precheck.specs.Marks.{unset}
-use Rattle.walk.specs.FieldRecord.{issueOf}
-use Rattle.walk.proofs.RecordKept.{issue-most}
-use Rattle.precheck.specs.Judging.{fieldRules}
-use Rattle.precheck.specs.Check.{unlessBroken, checkFrom, precheckOf, checkedAnswer, precheckAnswer}
-use Rattle.precheck.specs.Marks.{Marks}
+use Rattle.precheck.specs.Check.{precheckOf, checkedAnswer, precheckAnswer}
 use Rattle.precheck.specs.declared.Checked.{Checked}
 use Rattle.precheck.specs.declared.Checked.the-variants as checked
-use Rattle.precheck.proofs.Checking.{precheck-right, precheck-wrong, precheck-passed}
 use Rattle.run.specs.declared.Outcome.{Outcome}
 use Rattle.run.specs.declared.Outcome.the-variants as outcome
-use Rattle.run.specs.Perform.{stepVerdict}
-use Rattle.run.specs.Run.{Ran, unlessRefused, execute, runOf, outcomeAnswer, runAnswer}
-use Rattle.run.proofs.Running.{run-unsized, run-refused, run-passed}
+use Rattle.run.specs.Run.{runOf, outcomeAnswer, runAnswer}
+use Rattle.run.proofs.SmallAnswers.{Small, precheck-small, run-small}
 use Rattle.capi.specs.Packed.{refusalBit, numberUnit, packed, unpackedRefusal, unpackedCount, unpackedCheck, unpackedRun, unpackedStep}
 
--- ---- small answers
-
--- a job's answer whose count or place is at most 8,192
-abbrev Small : Answer → Type 0
-Small done = ⊥
-Small (passed n) = n ≤ jobBytes
-Small (finished n) = n ≤ jobBytes
-Small (refused number place) = (number < 256) × (place ≤ jobBytes)
+-- ---- one number
 
 -- a refusal, and that it is taken for one
 refusal-unpacks : (number place : ℕ) → number < 256 → place ≤ jobBytes
@@ -70,66 +43,6 @@ module _ (counted : ℕ → Answer) where
   refused-unpacks number place s =
       let u = refusal-unpacks number place (s .0) (s .1) in
       rw (le-ltb (packed (refused number place)) refusalBit (u .1)) (u .0)
-
--- ---- the fields of a short job
-
--- every place is small, and so is the count at the end, n issue fields having come before
-abbrev Inside : ℕ → List Field → Type 0
-Inside n [] = n ≤ jobBytes
-Inside n (f ∷ fs) = (f .place ≤ jobBytes) × Inside (n + issueOf (f .kind)) fs
-
-inside : (job : List ℕ) → length job ≤ jobBytes → Inside 0 (fieldsFrom job 0)
-inside job short = go (length job) 0 0 (omega arith) (omega arith) (omega arith)
-  where
-    go : (k at n : ℕ) → length job ≤ at + k → at ≤ length job → n ≤ at → Inside n (fieldsFrom job at)
-    go zero at n l a h = rw (fields-end job at (omega arith)) (omega arith)
-    go (suc k) at n l a h =
-        split (ltb at (length job))
-        (λ e.
-        let i = ltb-true at (length job) e in
-        let g = grows job at i in
-        let m = issue-most (fieldAt job at .kind) in
-        rw (fields-step job at i) ((rw (place-at job at) (omega arith)), go k (fieldAt job at .next) (n + issueOf (fieldAt job at .kind)) (omega arith) (ends job at) (omega arith)))
-        (λ e. rw (fields-end job at (ltb-false at (length job) e)) (omega arith))
-
--- ---- the pre-check
-
-check-small : (job : List ℕ) (fs : List Field) (c : Control) (m : Marks) (n : ℕ) → Inside n fs → Small (checkedAnswer (checkFrom job fs c m n))
-unfolding checkFrom
-check-small job [] c m n i = i
-check-small job (f ∷ fs) c m n i = go (lowest (fieldRules c m (f .kind))) _ (check-small job fs _ _ _ (i .1))
-  where
-    go : (v : Verdict) (next : Checked) → Small (checkedAnswer next) → Small (checkedAnswer (unlessBroken v (f .place) next))
-    go verdict.Done next h = h
-    go (verdict.Refused r) next h = (number-byte r, i .0)
-
-precheck-small : (job : List ℕ) → Small (precheckAnswer job)
-unfolding precheckAnswer
-precheck-small job = go (shapeOf job) refl
-  where
-    go : (x : Shape) → shapeOf job ≡ x → Small (checkedAnswer (precheckOf job))
-    go shape.Right e = rw (precheck-right job e) (check-small job (fieldsFrom job 0) start (unset (jobWidth job)) 0 (inside job (shaped job e .short)))
-    go (shape.WrongAt place) e = rw (precheck-wrong job place e) (number-byte refusal.Shape, shape-inside job place e)
-
--- ---- the run
-
-execute-small : (job : List ℕ) (fs : List Field) (c : Control) (s : State) (n : ℕ) → Inside n fs → Small (outcomeAnswer (execute job fs c s n .outcome))
-unfolding execute
-execute-small job [] c s n i = i
-execute-small job (f ∷ fs) c s n i = go (stepVerdict c (f .kind) s) _ (execute-small job fs _ _ _ (i .1))
-  where
-    go : (v : Verdict) (next : Ran) → Small (outcomeAnswer (next .outcome)) → Small (outcomeAnswer (unlessRefused v (f .place) s next .outcome))
-    go verdict.Done next h = h
-    go (verdict.Refused r) next h = (number-byte refusal.StepRefused, i .0)
-
-run-small : (job : List ℕ) (s : State) → Small (runAnswer job s)
-unfolding runAnswer precheckAnswer
-run-small job s = split (sized s) (λ z. go z (precheckOf job) refl (precheck-small job)) (λ z. rw (run-unsized job s z) (number-byte refusal.StateLength, omega arith))
-  where
-    go : sized s ≡ true → (x : Checked) → precheckOf job ≡ x → Small (precheckAnswer job) → Small (outcomeAnswer (runOf job s .outcome))
-    go z (checked.Passed n) e h =
-        rw (run-passed job s z n e) (execute-small job (fieldsFrom job 0) start s 0 (inside job (shaped job (precheck-passed job n e .0) .short)))
-    go z (checked.Refused r place) e h = rw (run-refused job s z r place e) (rw e at h)
 
 -- ---- nothing is lost
 

@@ -38,6 +38,7 @@ use Rattle.run.specs.declared.Outcome.the-variants.{Finished, Refused}
 use Rattle.lines.specs.Lines.{linesOf}
 use Rattle.lines.specs.Text.{refusedText}
 use Rattle.lines.specs.Printed.{printedBy, printedOf, printedText, textsOf}
+use Rattle.lines.proofs.Fits.{run-written}
 use Rattle.demand.specs.Breaks.{FirstBroken, issueFields}
 use Rattle.demand.specs.Demand as demand
 use Rattle.demand.specs.Demand.{jobNumbers, runNumbers, Ranks, Lengths, Unbroken, Named, Demand3, Demand1, JobModes}
@@ -197,6 +198,7 @@ module _ (job : List ℕ) where
           kept = λ r p o. refused r p o .0;
           tabled = λ r p o. ⊎-elim (λ q. rw q) (λ e. or-right (eqb (numberOf r) 9) _ (tabled r p e)) (refused r p o .1);
           line = line;
+          written = run-written job s;
         }
 
   -- ---- the BF16 mode

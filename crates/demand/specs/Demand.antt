@@ -2,10 +2,10 @@
 -- which numbers the two Dst modes leave. Definitions only.
 use mathlib.Core.Path.{_≡_}
 use mathlib.Core.Bool.{true, false}
-use mathlib.Core.List.{List, [], _∷_}
+use mathlib.Core.List.{List, [], _∷_, map}
 use mathlib.Core.Logic.{_⊎_, _≢_}
 use mathlib.Core.Option.{Option, none, some}
-use Prim.Native.Nat.{ℕ, suc, _<_}
+use Prim.Native.Nat.{ℕ, suc, _≤_, _<_}
 use lib.Dec.{ltb}
 use lib.ListN.{length, getD}
 use Rattle.cells.specs.declared.Width.the-variants.{Bits16}
@@ -30,7 +30,8 @@ use Rattle.precheck.specs.Marks.{unset}
 use Rattle.precheck.specs.Check.{precheckOf}
 use Rattle.precheck.specs.declared.Checked.the-variants as checked
 use Rattle.run.specs.Run.{ran, runOf}
-use Rattle.lines.specs.Text.{refusedText}
+use Rattle.lines.specs.Text.{bytesIn, refusedText}
+use Rattle.lines.specs.Cursor.{startCursor, loopTexts}
 use Rattle.lines.specs.Printed.{printedOf, textsOf}
 use Rattle.run.specs.declared.Outcome.the-variants.{Finished, Refused}
 use Rattle.demand.specs.WellShaped.{WellShaped, fieldsOf, tagged, FirstWrong}
@@ -121,6 +122,9 @@ pub record Demand1 (job : List ℕ) (s : State) : Type 0 where
   pub tabled : (r : Refusal) (p : ℕ) → runOf job s .outcome ≡ Refused r p → oneOf (numberOf r) runNumbers ≡ true
   -- all that a refused run prints is the refusal's line
   pub line : (r : Refusal) (p : ℕ) → runOf job s .outcome ≡ Refused r p → textsOf job (runOf job s) ≡ refusedText (numberOf r) p ∷ []
+  -- a loop over the next text, in turns enough, writes all that the run prints, refused or finished: each text whole, once, in order
+  pub written : (n : ℕ) → length (textsOf job (runOf job s)) ≤ n
+      → map bytesIn (loopTexts n job (runOf job s .outcome) startCursor (runOf job s .state)) ≡ textsOf job (runOf job s)
 
 -- the single step, over any record, thread, word and state: 1 to 7 or 9, and the record as it came
 pub record StepDemand1 (c : Control) (t w : ℕ) (s : State) : Type 0 where

@@ -2,4 +2,5 @@
 pub mod Texts
 pub mod Cursors
 pub mod Giving
+pub mod Fits
 mod Examples

@@ -169,34 +169,40 @@ length-columns w l r k (suc n) = ap suc (length-columns w l r (suc k) n)
 fits-20 : (n : ℕ) → n < 2 ^ 64 → length (decimal n) ≤ 20
 fits-20 n h = decimal-short 19 n (omega arith)
 
-module _ (r : Text) (w : List ℕ) (n : ℕ) (fits : n < 2 ^ 64) where
-  pub number-text : length w ≤ 20 → r ≡ pushed (wrote (wrote emptyText w) (decimal n)) 10
-      → (r ≡ made (w ++ decimal n ++ 10 ∷ [])) × Holds r (w ++ decimal n ++ 10 ∷ [])
-  number-text h e =
-      whole r _ (simp length-append (omega (arith, fits-20 n fits)))
-      (e ∙ simp (wrote-one, wrote-append, append-assoc))
+module _ (w : List ℕ) (n : ℕ) (fits : n < 2 ^ 64) (h : length w ≤ 20) where
+  pub number-short : length (w ++ decimal n ++ 10 ∷ []) ≤ 160
+  number-short = simp length-append (omega (arith, fits-20 n fits))
 
-  pub numbers-text : (v : List ℕ) (p : ℕ) → p < 2 ^ 64 → length w ≤ 20 → length v ≤ 20
+  pub numbers-short : (v : List ℕ) (p : ℕ) → p < 2 ^ 64 → length v ≤ 20 → length (w ++ decimal n ++ v ++ decimal p ++ 10 ∷ []) ≤ 160
+  numbers-short v p f k = simp length-append (omega (arith, fits-20 n fits, fits-20 p f))
+
+  pub number-text : (r : Text) → r ≡ pushed (wrote (wrote emptyText w) (decimal n)) 10
+      → (r ≡ made (w ++ decimal n ++ 10 ∷ [])) × Holds r (w ++ decimal n ++ 10 ∷ [])
+  number-text r e = whole r _ number-short (e ∙ simp (wrote-one, wrote-append, append-assoc))
+
+  pub numbers-text : (v : List ℕ) (p : ℕ) → p < 2 ^ 64 → length v ≤ 20 → (r : Text)
       → r ≡ pushed (wrote (wrote (wrote (wrote emptyText w) (decimal n)) v) (decimal p)) 10
       → (r ≡ made (w ++ decimal n ++ v ++ decimal p ++ 10 ∷ [])) × Holds r (w ++ decimal n ++ v ++ decimal p ++ 10 ∷ [])
-  numbers-text v p f h k e =
-      whole r _ (simp length-append (omega (arith, fits-20 n fits, fits-20 p f)))
-      (e ∙ simp (wrote-one, wrote-append, append-assoc))
+  numbers-text v p f k r e = whole r _ (numbers-short v p f k) (e ∙ simp (wrote-one, wrote-append, append-assoc))
+
+pub row-short : (w : Width) (l : List ℕ) (i : ℕ) → i < 2 ^ 32 → length (textOf (row w i (columns w l i 0 16))) ≤ 160
+unfolding textOf
+row-short w l i f =
+    simp length-append
+    (omega (arith, decimal-short 9 i (omega arith), values-short (digitsOf w) (columns w l i 0 16) (digits-short w), length-columns w l i 0 16))
+
+pub value-short : (t i v : ℕ) → t < 2 ^ 64 → i < 2 ^ 64 → length (textOf (value t i v)) ≤ 160
+unfolding textOf
+value-short t i v f g = simp length-append (omega (arith, fits-20 t f, fits-20 i g, values-short 8 (v ∷ []) (omega arith)))
 
 pub row-text : (r : Text) (w : Width) (l : List ℕ) (i : ℕ) → i < 2 ^ 32
     → r ≡ pushed (wrote (wrote (wrote emptyText wordRow) (decimal i)) (values (digitsOf w) (columns w l i 0 16))) 10
     → (r ≡ made (textOf (row w i (columns w l i 0 16)))) × Holds r (textOf (row w i (columns w l i 0 16)))
 unfolding textOf
-row-text r w l i f e =
-    whole r _
-    (simp length-append
-    (omega (arith, decimal-short 9 i (omega arith), values-short (digitsOf w) (columns w l i 0 16) (digits-short w), length-columns w l i 0 16)))
-    (e ∙ simp (wrote-one, wrote-append, append-assoc))
+row-text r w l i f e = whole r _ (row-short w l i f) (e ∙ simp (wrote-one, wrote-append, append-assoc))
 
 pub value-text : (r : Text) (t i v : ℕ) → t < 2 ^ 64 → i < 2 ^ 64
     → r ≡ pushed (wrote (wrote (pushed (wrote (wrote emptyText wordRegister) (decimal t)) 32) (decimal i)) (values 8 (v ∷ []))) 10
     → (r ≡ made (textOf (value t i v))) × Holds r (textOf (value t i v))
 unfolding textOf
-value-text r t i v f g e =
-    whole r _ (simp length-append (omega (arith, fits-20 t f, fits-20 i g, values-short 8 (v ∷ []) (omega arith))))
-    (e ∙ simp (wrote-one, wrote-append, append-assoc))
+value-text r t i v f g e = whole r _ (value-short t i v f g) (e ∙ simp (wrote-one, wrote-append, append-assoc))

@@ -31,11 +31,15 @@ wrote t (b ∷ bs) = wrote (pushed t b) bs
 abbrev pub made : List ℕ → Text
 made l = wrote emptyText l
 
--- the first bytes of a text are this list, all of it
+-- the bytes that count
+abbrev pub bytesIn : Text → List ℕ
+bytesIn t = take (t .len) (t .bytes)
+
+-- they are this list, all of it
 pub record Holds (t : Text) (l : List ℕ) : Type 0 where
   pub short : t .len ≤ 160
   pub size : t .len ≡ length l
-  pub first : take (t .len) (t .bytes) ≡ l
+  pub first : bytesIn t ≡ l
 
 -- ---- numbers
 

@@ -24,7 +24,7 @@ push-requires c κs = search needs
 
 returns : tie.Need-returns
 unfolding finishedText
-returns c = number-text _ wordFinished _ (omega arith) (omega arith)
+returns c = number-text wordFinished _ (omega arith) (omega arith) _
     ((c .push .ensures) ∙ rw ((c .before .push-decimal .ensures), (c .before .before .push-word .ensures), (c .before .before .before .before .empty .ensures)))
 
 pub finished-text-spec : {M : Type 1} → statement M

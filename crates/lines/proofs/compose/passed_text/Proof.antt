@@ -24,7 +24,7 @@ push-requires c κs = search needs
 
 returns : tie.Need-returns
 unfolding passedText
-returns c = number-text _ wordPassed _ (omega arith) (omega arith)
+returns c = number-text wordPassed _ (omega arith) (omega arith) _
     ((c .push .ensures) ∙ rw ((c .before .push-decimal .ensures), (c .before .before .push-word .ensures), (c .before .before .before .before .empty .ensures)))
 
 pub passed-text-spec : {M : Type 1} → statement M

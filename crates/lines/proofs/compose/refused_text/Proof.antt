@@ -39,7 +39,7 @@ push-requires c κs = search needs
 
 returns : tie.Need-returns
 unfolding refusedText
-returns c = rw (← (c .before .before .before .before .before .before .before .before .number .ensures)) (numbers-text _ wordRefused _ (omega arith) wordAt _ (omega arith) (omega arith) (omega arith)
+returns c = rw (← (c .before .before .before .before .before .before .before .before .number .ensures)) (numbers-text wordRefused _ (omega arith) (omega arith) wordAt _ (omega arith) (omega arith) _
     ((c .push .ensures) ∙ rw ((c .before .push-decimal2 .ensures), (c .before .before .push-word2 .ensures), (c .before .before .before .before .push-decimal .ensures), (c .before .before .before .before .before .push-word .ensures), (c .before .before .before .before .before .before .before .empty .ensures))))
 
 pub refused-text-spec : {M : Type 1} → statement M
