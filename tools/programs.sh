@@ -156,9 +156,14 @@ print_version() {
     commit='no commit'
     if [ -e "$top/.git" ] && head=$(git -C "$top" rev-parse HEAD 2>/dev/null); then
         commit=$head
-        [ -z "$(git -C "$top" status --porcelain 2>/dev/null)" ] || commit="$head, with changes"
+        if ! changes=$(git -C "$top" status --porcelain 2>/dev/null); then
+            commit="$head, perhaps with changes: git cannot tell"
+        elif [ -n "$changes" ]; then
+            commit="$head, with changes"
+        fi
     fi
-    printf '%s\n' "vintrazzola $commit" "sources $sources" "toolchain $toolchain" || fail "the output cannot be written"
+    printf '%s\n' "vintrazzola $commit" "sources $sources" "toolchain $toolchain" \
+        "wrapper $(cat "$top/emulate" "$top/tools/programs.sh" | sha256sum | cut -c 1-64)" || fail "the output cannot be written"
     for p in $programs; do
         printf '%s\n' "program $p $(sed -n 's/^program //p' "$bin/$p.stamp")" || fail "the output cannot be written"
     done

@@ -1,6 +1,6 @@
 # The proved programs. Sourced by tests/programs/run.
 wrapper=$top/emulate
-cases=24
+cases=25
 is_built() (. tools/programs.sh && look && all_made)
 if [ "${1:-}" = --build ] && ! "$wrapper" --version; then
     wrong "the programs cannot be built"
@@ -59,6 +59,13 @@ else
     wait "$waiting" || status=$?
     exec 6>&-
     ended "a killed program" 3 "" "status 137"
+
+    # ---- one source gives one program: made a second time, both are the same
+    call --version
+    cp "$room/out" "$room/version"
+    rm target/bin/emulate target/bin/validate
+    call --version
+    holds "made twice, the programs are the same" cmp "$room/version" "$room/out"
 
     # ---- the program alone, as the toolchain runs it: nothing on descriptor 3, and the same output
     wrapper=$top/target/bin/emulate

@@ -41,10 +41,16 @@ call_kit --validate --unknown </dev/null && ended "an unknown option after --val
 call_kit --version more </dev/null && ended "--version with a word" 2 "" usage
 call_kit "$room/missing" && ended "a missing file" 3 "" "cannot read"
 call_kit "$room" && ended "a directory" 3 "" "cannot read"
+# root reads every file, so that it has to be somebody else who cannot
+echo 'echo 0 >&3' >"$room/unreadable"
+chmod 0 "$room/unreadable"
+chmod 755 "$room"
 if [ "$(id -u)" != 0 ]; then
-    echo 'echo 0 >&3' >"$room/unreadable"
-    chmod 0 "$room/unreadable"
     call_kit "$room/unreadable" && ended "an unreadable file" 3 "" "cannot read"
+else
+    status=0
+    PATH=$kit_path setpriv --reuid=65534 --regid=65534 --clear-groups "$wrapper" "$room/unreadable" >"$room/out" 2>"$room/err" || status=$?
+    ended "an unreadable file" 3 "" "cannot read"
 fi
 holds "nothing is built for a wrong call" [ "$(builds)" = 0 ]
 
@@ -79,6 +85,13 @@ call_kit <&- && ended "standard input is closed" 3 "" closed
 status=0
 PATH=$kit_path "$wrapper" --unknown >"$room/out" 2>/dev/full || status=$?
 ended "a wrong call that cannot be said" 2 ""
+mkfifo "$room/errors"
+exec 7<>"$room/errors" 8>"$room/errors" 7>&-
+status=0
+PATH=$kit_path "$wrapper" --unknown >"$room/out" 2>&8 8>&- || status=$?
+exec 8>&-
+: >"$room/err"
+ended "a wrong call that nobody reads of" 2 ""
 holds "later calls build nothing" [ "$(builds)" = 1 ]
 
 # ---- what is made anew
@@ -133,10 +146,11 @@ rm "$room/kit/first"
 
 # ---- which bench
 call_kit --version
-holds "--version says sources, toolchain and both programs" awk '
+holds "--version says sources, toolchain, wrapper and both programs" awk '
     NR == 1 && $1 == "vintrazzola" || NR == 2 && $1 == "sources" && length($2) == 64 ||
-    NR == 3 && $0 == "toolchain kit-2 logic 0123" || NR > 3 && $1 == "program" && length($3) == 64 { n++ }
-    END { exit n == 5 && NR == 5 ? 0 : 1 }' "$room/out"
+    NR == 3 && $0 == "toolchain kit-2 logic 0123" || NR == 4 && $1 == "wrapper" && length($2) == 64 ||
+    NR > 4 && $1 == "program" && length($3) == 64 { n++ }
+    END { exit n == 6 && NR == 6 ? 0 : 1 }' "$room/out"
 PATH=$kit_path call_full --version && ended "--version on a full device" 3 ""
 mkdir "$room/bare"
 for tool in sh sha256sum flock find sort cut cat sed dirname readlink git; do ln -s "$(command -v "$tool")" "$room/bare/$tool"; done

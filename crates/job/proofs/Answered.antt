@@ -1,9 +1,10 @@
--- The answers in the paper's numbers: they go by the answer, and a field that is not wrong carries its tag and the numbers of its payload. Assumes nothing.
-use mathlib.Core.Path.{_≡_, refl, sym, ap, subst}
+-- The answers in the paper's numbers: they go by the answer, and a field carries what stands in the job's bytes. Assumes nothing.
+use mathlib.Core.Path.{_≡_, refl, sym, ap, _∙_, subst}
 use mathlib.Core.Bool.{Bool, true, cond}
 use mathlib.Core.List.{List, [], _∷_}
 use Prim.Native.Nat.{ℕ, _+_, _-_, _≤_, _<_}
 use native.Mathlib.Nat.{add-sub-cancel-left}
+use native.Mathlib.Omega.{arith}
 use borrow.Author.Tests.{lt-leb, le-leb, eqb-true}
 use lib.Dec.{leb, ltb, eqb}
 use lib.ListN.{length, getD, take, drop}
@@ -23,12 +24,13 @@ use Rattle.job.specs.declared.Kind.{Kind}
 use Rattle.job.specs.declared.Kind.the-variants.{Settings, Issue, HandOver, Writes, Prints, Wrong}
 use Rattle.job.specs.declared.Write.the-variants.{LoadSrc, LoadDst, LoadRegister, ZeroRows}
 use Rattle.job.specs.declared.Output.the-variants.{Rows, Register}
-use Rattle.job.specs.Answers.{carries, fileNumber, widthNumbers, widthAnswer, kindNumbers, fieldNumbers, fieldAnswer, payloadNumbers, shapeNumbers, shapeAnswer}
+use Rattle.job.specs.Answers.{carries, fileNumber, widthNumbers, widthAnswer, kindNumbers, fieldNumbers, payloadNumbers, standing, fieldAnswer, shapeNumbers, shapeAnswer}
 use Rattle.job.specs.Fields.{endAt, payloadAt, jobWidth, wholeField, fieldAt}
 use Rattle.job.specs.Shape.{shapeOf}
 use Rattle.job.specs.declared.Field.{Field}
 use Rattle.job.specs.declared.Shape.{Shape}
 use Rattle.job.proofs.Says.{chosen}
+use Rattle.job.proofs.Walk.{place-at}
 use Rattle.job.proofs.Shaped.{NotWrong}
 
 -- ---- the field at a place, by its end
@@ -43,13 +45,13 @@ module _ (job : List ℕ) (at : ℕ) where
   unfolding fieldAt
   field-whole n e h = rw (← e, le-leb (at + 3 + n) (length job) h, add-sub-cancel-left (at + 3) n)
 
+differ : {A : Type 0} → _≡_ {A = ℕ} 0 1 → A
+differ z = absurd (omega arith)
+
 -- ---- the answer in numbers goes by the answer
 
 pub width-answered : (job : List ℕ) (w : Width) → w ≡ jobWidth job → (w ≡ jobWidth job) × (widthNumbers w ≡ widthAnswer job)
 width-answered job w e = (e, ap widthNumbers e)
-
-pub field-answered : (job : List ℕ) (at : ℕ) (f : Field) → f ≡ fieldAt job at → (f ≡ fieldAt job at) × (fieldNumbers f ≡ fieldAnswer job at)
-field-answered job at f e = (e, ap fieldNumbers e)
 
 pub shape-answered : (job : List ℕ) (s : Shape) → s ≡ shapeOf job → (s ≡ shapeOf job) × (shapeNumbers s ≡ shapeAnswer job)
 shape-answered job s e = (e, ap shapeNumbers e)
@@ -136,9 +138,27 @@ module _ (at : ℕ) (v : Width) (p : List ℕ) where
       (or-next tag 7 _ _ output-register-carried
       (or-next tag 8 _ _ zero-carried (record { same = λ w. absurd (w Tag refl) }))))))))
 
-pub numbers-stand : (job : List ℕ) (at : ℕ) → NotWrong (fieldAt job at) → fieldAnswer job at ≡ carries (getD job at 0) (payloadNumbers (getD job at 0) (payloadAt job at))
+numbers-stand : (job : List ℕ) (at : ℕ) → NotWrong (fieldAt job at) → fieldNumbers (fieldAt job at) ≡ carries (getD job at 0) (payloadNumbers (getD job at 0) (payloadAt job at))
 unfolding fieldAt
 numbers-stand job at w =
     split (leb (endAt job at) (length job))
     (λ e. let x = rw e at w in rw e (carried at (jobWidth job) (payloadAt job at) (getD job at 0) .same x))
     (λ e. absurd (w CutOff (rw e)))
+
+-- so a field answers what stands there
+stands : (job : List ℕ) (at : ℕ) → fieldNumbers (fieldAt job at) ≡ fieldAnswer job at
+stands job at = go (fieldAt job at .kind) refl
+  where
+    right : (k : Kind) → fieldAt job at .kind ≡ k → ((c : Cause) → k ≡ Wrong c → ⊥) → fieldNumbers (fieldAt job at) ≡ carries (getD job at 0) (payloadNumbers (getD job at 0) (payloadAt job at))
+    right k e d = numbers-stand job at (λ c q. d c (sym e ∙ q))
+
+    go : (k : Kind) → fieldAt job at .kind ≡ k → fieldNumbers (fieldAt job at) ≡ standing k at (getD job at 0) (payloadAt job at)
+    go Settings e = right Settings e (λ c q. differ (cc))
+    go (Issue t w) e = right (Issue t w) e (λ c q. differ (cc))
+    go (HandOver file) e = right (HandOver file) e (λ c q. differ (cc))
+    go (Writes x) e = right (Writes x) e (λ c q. differ (cc))
+    go (Prints o) e = right (Prints o) e (λ c q. differ (cc))
+    go (Wrong c) e = rw (e, place-at job at)
+
+pub field-answered : (job : List ℕ) (at : ℕ) (f : Field) → f ≡ fieldAt job at → (f ≡ fieldAt job at) × (fieldNumbers f ≡ fieldAnswer job at)
+field-answered job at f e = (e, ap fieldNumbers e ∙ stands job at)

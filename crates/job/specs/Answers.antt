@@ -15,7 +15,7 @@ use Rattle.word.specs.Refusal.{Answer, done, answerOf}
 use Rattle.word.specs.declared.Refusal.the-variants as refusal
 use Rattle.job.specs.Bytes.{le2, le4}
 use Rattle.job.specs.Kinds.{loadSpan}
-use Rattle.job.specs.Fields.{jobWidth, fieldAt}
+use Rattle.job.specs.Fields.{payloadAt, jobWidth, fieldAt}
 use Rattle.job.specs.Shape.{shapeOf}
 use Rattle.job.specs.declared.Write.{Write}
 use Rattle.job.specs.declared.Write.the-variants.{LoadSrc, LoadDst, LoadRegister, ZeroRows}
@@ -73,21 +73,7 @@ kindNumbers place (kind.Wrong c) = answers (answerOf refusal.Shape place)
 abbrev pub fieldNumbers : Field → FieldAnswer
 fieldNumbers f = kindNumbers (f .place) (f .kind)
 
--- the field whose tag stands at `at`
-abbrev pub fieldAnswer : List ℕ → ℕ → FieldAnswer
-fieldAnswer job at = fieldNumbers (fieldAt job at)
-
--- ---- the shape
-
-abbrev pub shapeNumbers : Shape → Answer
-shapeNumbers Right = done
-shapeNumbers (WrongAt place) = answerOf refusal.Shape place
-
-abbrev pub shapeAnswer : List ℕ → Answer
-shapeAnswer job = shapeNumbers (shapeOf job)
-
--- ---- the numbers that stand in a payload with this tag, in the table's order; a load's count of rows follows from its length
-
+-- the numbers that stand in a payload with this tag, in the table's order; a load's count of rows follows from its length
 abbrev pub payloadNumbers : ℕ → List ℕ → List ℕ
 payloadNumbers tag p =
     cond (eqb tag 2) (getD p 0 0 ∷ rowNumbers (loadSpan p))
@@ -98,3 +84,25 @@ payloadNumbers tag p =
     (cond (eqb tag 7) (getD p 0 0 ∷ getD p 1 0 ∷ [])
     (cond (eqb tag 8) (le2 p 0 ∷ le2 p 2 ∷ [])
     []))))))
+
+-- what stands at a place: a wrong field is refused with 1 there, any other has its tag and the numbers of its payload
+abbrev pub standing : Kind → ℕ → ℕ → List ℕ → FieldAnswer
+standing kind.Settings place tag p = carries tag (payloadNumbers tag p)
+standing (kind.Issue t w) place tag p = carries tag (payloadNumbers tag p)
+standing (kind.HandOver file) place tag p = carries tag (payloadNumbers tag p)
+standing (kind.Writes x) place tag p = carries tag (payloadNumbers tag p)
+standing (kind.Prints o) place tag p = carries tag (payloadNumbers tag p)
+standing (kind.Wrong c) place tag p = answers (answerOf refusal.Shape place)
+
+-- the field whose tag stands at `at`, by the job's bytes
+abbrev pub fieldAnswer : List ℕ → ℕ → FieldAnswer
+fieldAnswer job at = standing (fieldAt job at .kind) at (getD job at 0) (payloadAt job at)
+
+-- ---- the shape
+
+abbrev pub shapeNumbers : Shape → Answer
+shapeNumbers Right = done
+shapeNumbers (WrongAt place) = answerOf refusal.Shape place
+
+abbrev pub shapeAnswer : List ℕ → Answer
+shapeAnswer job = shapeNumbers (shapeOf job)

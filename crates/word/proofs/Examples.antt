@@ -1,4 +1,4 @@
--- Words in the paper's numbers, worked: the three scalar instructions of its worked numbers (xor of register 1 and 5 into 3; the constant 33), INCRWC, GAPOOL,
+-- Words in the paper's numbers, worked: the three scalar instructions of its worked numbers (xor of register 1 and the constant 5 into register 3; the constant 33), INCRWC, GAPOOL,
 -- DOTPV, a legacy instruction with a dst, SHIFTXB; an unknown opcode; GAPOOL's bit 14 and SETRWC's bit 4, which the paper does not name. Assumes nothing.
 use mathlib.Core.Path.{_≡_, refl}
 use mathlib.Core.List.{[], _∷_, map}

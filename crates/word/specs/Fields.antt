@@ -1,5 +1,5 @@
--- Document 01, "Instruction fields" and "Numbers given back": what the word reader answers, in the paper's numbers: an opcode and the fields in the order of
--- their row, or the number 2 or 3. Definitions only.
+-- Document 01, "Instruction fields" and "Numbers given back": what the word reader answers, in the paper's numbers: the first opcode of its class and the
+-- fields that the instruction goes by, in the order of their row, or the number 2 or 3. Definitions only.
 use mathlib.Core.Bool.{Bool, cond}
 use mathlib.Core.List.{List, [], _∷_, map}
 use mathlib.Core.Option.{Option, none, some}
