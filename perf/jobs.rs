@@ -1,9 +1,9 @@
 //! The jobs that are measured, each as large as 8,192 bytes allow or of a chosen size.
 
 use crate::engine::{
-    datum, write, Control, Field, Name, A, B, BF16, BITWOPDMAREG, BLOCK, CMPDMAREG, COLUMNS, D,
-    DST_CLEAR, DST_ROWS, FIELD_ROWS, FP32, JOB_BYTES, MANTISSAS, MVMUL, REGISTERS, SHIFTDMAREG,
-    TF32, THREADS, ZEROSRC,
+    datum, row_bytes, settings_bytes, write, Control, Field, Name, A, B, BF16, BITWOPDMAREG, BLOCK,
+    CMPDMAREG, COLUMNS, D, DST_CLEAR, DST_ROWS, FIELD_ROWS, FP32, JOB_BYTES, MANTISSAS, MVMUL,
+    REGISTERS, SHIFTDMAREG, TF32, THREADS, ZEROSRC,
 };
 use crate::generate::rng::Rng;
 
@@ -53,7 +53,7 @@ struct Job {
 
 impl Job {
     fn new(mode: Mode) -> Job {
-        let bytes = write(&Field::Settings(Box::new(mode.settings())));
+        let bytes = write(&Field::Settings(&settings_bytes(&mode.settings())));
         Job { mode, bytes }
     }
 
@@ -61,12 +61,9 @@ impl Job {
         self.bytes.extend(write(&field));
     }
 
-    fn load_rows(&mut self, file: usize, numbers: Vec<u32>) {
-        self.push(Field::LoadRows {
-            file,
-            first: 0,
-            numbers,
-        });
+    fn load_rows(&mut self, file: usize, numbers: &[u32]) {
+        let (first, rows) = (0, &row_bytes(numbers));
+        self.push(Field::LoadRows { file, first, rows });
     }
 
     fn load_register(&mut self, thread: usize, register: usize, value: u32) {
@@ -132,8 +129,8 @@ pub fn cleared_multiplies(mode: Mode, count: usize) -> Vec<u8> {
 /// MVMULs over loaded numbers.
 pub fn loaded_multiplies(rng: &mut Rng, mode: Mode, count: usize) -> Vec<u8> {
     let mut job = Job::new(mode);
-    job.load_rows(A, data(rng, BLOCK));
-    job.load_rows(B, data(rng, EIGHT));
+    job.load_rows(A, &data(rng, BLOCK));
+    job.load_rows(B, &data(rng, EIGHT));
     job.multiply(count)
 }
 
@@ -175,7 +172,7 @@ pub fn dst_loads(rng: &mut Rng, mode: Mode) -> Vec<u8> {
     let mut job = Job::new(mode);
     for _ in 0..2 {
         let numbers = (0..60 * COLUMNS).map(|_| rng.below(1 << 16));
-        job.load_rows(D, numbers.collect());
+        job.load_rows(D, &numbers.collect::<Vec<u32>>());
     }
     job.output_rows(1);
     job.bytes
@@ -185,9 +182,10 @@ pub fn dst_loads(rng: &mut Rng, mode: Mode) -> Vec<u8> {
 pub fn row_loads(rng: &mut Rng, rows: usize) -> Vec<u8> {
     let mut job = Job::new(Mode::Tf32);
     let of_dst = rows.min(FIELD_ROWS);
-    job.load_rows(D, (0..of_dst * COLUMNS).map(|_| rng.word()).collect());
+    let numbers = (0..of_dst * COLUMNS).map(|_| rng.word());
+    job.load_rows(D, &numbers.collect::<Vec<u32>>());
     if rows > of_dst {
-        job.load_rows(A, data(rng, rows - of_dst));
+        job.load_rows(A, &data(rng, rows - of_dst));
     }
     job.output_rows(1);
     job.bytes

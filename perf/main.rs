@@ -1,5 +1,6 @@
 //! Measures the proved emulator, linked through its C interface, against the second program's
-//! engine and against a hand-tuned multiply, on the same jobs in one run. `perf/run` builds it.
+//! engine, against a hand-tuned multiply and, step by step, against a plain Rust step, on the same
+//! jobs in one run. `perf/run` builds it.
 
 // The files of the second program and of the comparison serve other programs too.
 #[path = "../tests/second/engine/mod.rs"]
@@ -7,6 +8,7 @@ mod engine;
 #[path = "../tests/second/generate/mod.rs"]
 mod generate;
 mod jobs;
+mod plain_step;
 mod process;
 #[path = "../tests/compare/proved.rs"]
 mod proved;
@@ -17,7 +19,9 @@ mod tuned;
 use std::hint::black_box;
 use std::process::ExitCode;
 
-use engine::{precheck, run, Answer, State};
+use engine::{
+    fields, follow_record, precheck, run, Answer, Control, Name, Refusal, State, MVMUL, SETRWC,
+};
 use generate::numbers::state;
 use generate::rng::Rng;
 use jobs::Mode;
@@ -88,7 +92,8 @@ fn measure_run(name: &str, job: &[u8]) -> Vec<f64> {
     t
 }
 
-fn measure_precheck(name: &str, job: &[u8]) {
+/// Answers the ratio.
+fn measure_precheck(name: &str, job: &[u8]) -> f64 {
     let mut contenders: Vec<Contender> = vec![
         Box::new(|| {
             black_box(proved::precheck(black_box(job)));
@@ -99,6 +104,72 @@ fn measure_precheck(name: &str, job: &[u8]) {
     ];
     let t = times(&mut contenders);
     row(name, job, t[0], &[Some(t[1])]);
+    t[0] / t[1]
+}
+
+/// A single step's record in the numbers of the C interface, and the lent numbers.
+type Stepped = ([u32; plain_step::NUMBERS], State);
+
+/// What a job leaves.
+fn left(name: &str, job: &[u8]) -> Stepped {
+    let mut control = Control::start();
+    for (_, field) in fields(job) {
+        follow_record(&mut control, &field);
+    }
+    let mut record = [0; plain_step::NUMBERS];
+    plain_step::write(&control, &mut record);
+    (record, same(name, job))
+}
+
+fn proved_step(word: u32, (record, state): &mut Stepped) -> u64 {
+    proved::step(record, 0, word, state)
+}
+
+fn plain_step(word: u32, (record, state): &mut Stepped) -> u64 {
+    let refusal = plain_step::step(record, 0, word, state);
+    refusal.map_or(0, |refusal| proved::packed(&refusal.at(0)))
+}
+
+/// Both single steps are done and end alike, and both look at each number of the record.
+fn same_step(name: &str, word: u32, start: &Stepped) {
+    let [mut ours, mut plain] = [start.clone(), start.clone()];
+    let answers = (proved_step(word, &mut ours), plain_step(word, &mut plain));
+    assert_eq!(answers, (0, 0), "{name}");
+    assert!(ours == plain, "{name}: the numbers differ");
+    let refused = proved::packed(&Refusal::Shape.at(0));
+    for n in 0..plain_step::NUMBERS {
+        for both in [&mut ours, &mut plain] {
+            both.0[n] ^= 1 << 31;
+        }
+        let answers = (proved_step(word, &mut ours), plain_step(word, &mut plain));
+        assert_eq!(answers, (refused, refused), "{name}: number {n}");
+        for both in [&mut ours, &mut plain] {
+            both.0[n] ^= 1 << 31;
+        }
+    }
+}
+
+/// One instruction of thread 0, again and again: the single step through C against a plain Rust
+/// one. Answers the ratio.
+fn measure_step(name: &str, word: u32, start: &Stepped) -> f64 {
+    same_step(name, word, start);
+    let [mut ours, mut plain] = [start.clone(), start.clone()];
+    let mut contenders: Vec<Contender> = vec![
+        Box::new(|| {
+            black_box(proved_step(black_box(word), &mut ours));
+        }),
+        Box::new(|| {
+            black_box(plain_step(black_box(word), &mut plain));
+        }),
+    ];
+    let t = times(&mut contenders);
+    let ratio = t[0] / t[1];
+    println!(
+        "| {name} | {:.0} | {:.0} | {ratio:.2} |",
+        t[0] * 1e3,
+        t[1] * 1e3
+    );
+    ratio
 }
 
 /// The same work in rows of 32-bit and of 16-bit numbers, the proved run of both by turns. Only the
@@ -201,13 +272,25 @@ fn target(name: &str, most: f64, ratios: &[f64]) {
     println!("| {name} | {most} | {} | {verdict} |", printed.join(", "));
 }
 
-fn target_table(runs: &[Vec<f64>], widths: [f64; 4]) {
+fn target_table(runs: &[Vec<f64>], widths: [f64; 4], prechecks: &[f64], scalar_step: f64) {
     table("Targets", &["Target", "At most", "Measured", ""]);
     let ratio = |job: usize, other: usize| runs[job][0] / runs[job][other];
+    let second = "against the second program";
+    target(&format!("scalar-heavy {second}"), 0.8, &[ratio(4, 1)]);
+    target(
+        &format!("load-heavy {second}"),
+        1.0,
+        &[ratio(5, 1), ratio(6, 1)],
+    );
+    target(
+        &format!("pre-check alone, each job {second}"),
+        1.0,
+        prechecks,
+    );
     let tuned = "multiply-heavy against the tuned version";
     target(
         &format!("{tuned}, 32-bit Dst"),
-        1.1,
+        0.9,
         &[ratio(0, 2), ratio(1, 2)],
     );
     target(
@@ -215,26 +298,41 @@ fn target_table(runs: &[Vec<f64>], widths: [f64; 4]) {
         1.1,
         &[ratio(2, 2), ratio(3, 2)],
     );
-    let second = "against the second program";
-    target(&format!("scalar-heavy {second}"), 1.5, &[ratio(4, 1)]);
     target(
-        &format!("load-heavy {second}"),
-        1.5,
-        &[ratio(5, 1), ratio(6, 1)],
+        "single step, scalar word, against plain Rust",
+        1.2,
+        &[scalar_step],
     );
     let widths_name = "16-bit rows against 32-bit ones";
     target(&format!("multiplies, {widths_name}"), 1.2, &widths[..2]);
     target(&format!("zeroing, {widths_name}"), 3.0, &widths[2..3]);
 }
 
-fn precheck_table(named: &[Named]) {
+fn precheck_table(named: &[Named]) -> Vec<f64> {
     table(
         "The pre-check alone, in microseconds",
         &["Job", "Bytes", "Proved", "Second program", "Ratio"],
     );
-    for (name, job) in named {
-        measure_precheck(name, job);
-    }
+    let measured = named.iter().map(|(name, job)| measure_precheck(name, job));
+    measured.collect()
+}
+
+/// Answers the scalar word's ratio.
+fn step_table() -> f64 {
+    table(
+        "The single step, in nanoseconds",
+        &["Word", "Proved, through C", "Plain Rust", "Ratio"],
+    );
+    let job = jobs::loaded_multiplies(&mut Rng(1), Mode::Tf32, 1);
+    let start = left("loaded Src", &job);
+    let scalar = measure_step("scalar: 0x5B883141", 0x5B88_3141, &start);
+    let fields = [Name::CounterD, Name::CounterB, Name::CounterA, Name::Which];
+    let setrwc = SETRWC.word(&fields.map(|name| (name, 15)));
+    measure_step("SETRWC of all counters", setrwc, &start);
+    // A slot that moves nothing, so that each step is over the same rows.
+    let mvmul = MVMUL.word(&[(Name::Slot, 2)]);
+    measure_step("MVMUL, loaded Src; the plain one tuned", mvmul, &start);
+    scalar
 }
 
 fn growth_table(runs: &[Vec<f64>]) {
@@ -289,9 +387,11 @@ fn main() -> ExitCode {
     println!();
     let widths = width_table();
     println!();
-    target_table(&runs, widths);
+    let prechecks = precheck_table(&named);
     println!();
-    precheck_table(&named);
+    let scalar_step = step_table();
+    println!();
+    target_table(&runs, widths, &prechecks, scalar_step);
     println!();
     growth_table(&runs);
     println!();

@@ -3,8 +3,8 @@
 use std::ops::Range;
 
 use crate::engine::{
-    follow, lines, precheck, rules, run, shape, step, width_of, Answer, Control, Marks, Placed,
-    Refusal, State, Width, COLUMNS, THREADS,
+    act, fields, follow, follow_record, lines, precheck, ranged, raw_at, rules, run, shape, step,
+    width_of, Answer, Control, Field, Marks, Ranged, Refusal, State, Width, COLUMNS, THREADS,
 };
 use crate::generate::numbers::state;
 use crate::generate::records::record;
@@ -40,7 +40,6 @@ fn written_rows(control: &Control, thread: usize, word: u32) -> Range<usize> {
 /// A generated job, and what came of it over two states.
 struct Held {
     bytes: Vec<u8>,
-    fields: Vec<Placed>,
     answer: Answer,
     answers: [Answer; 2],
     before: [State; 2],
@@ -56,7 +55,6 @@ impl Held {
         let mut after = before.clone();
         let answers = [0, 1].map(|n: usize| run(&bytes, &mut after[n]));
         Held {
-            fields: shape(&bytes).0,
             answer: precheck(&bytes),
             answers,
             before,
@@ -67,7 +65,7 @@ impl Held {
     }
 
     fn width(&self) -> Width {
-        width_of(&self.fields)
+        width_of(&shape(&self.bytes).0)
     }
 
     fn passes(&self) -> bool {
@@ -86,6 +84,38 @@ impl Held {
         let (answer, reloaded) = (&self.answer, &self.reloaded);
         let fault = format!("{answer:?}, with other values {reloaded:?}");
         must(reloaded == answer, &fault)
+    }
+
+    /// A field fits when each of its ranged numbers is within its ends.
+    fn ranges(&self) -> Verdict {
+        let width = self.width();
+        for (place, field) in fields(&self.bytes) {
+            let (tag, payload) = raw_at(&self.bytes, place).expect("a whole field");
+            let holds = ranged(width, tag, payload).iter().all(Ranged::holds);
+            let fault = format!("the field at {place} fits by one rule alone");
+            must(field.fits(width) == holds, &fault)?;
+        }
+        Ok(())
+    }
+
+    /// A passing job run by single steps ends alike, so both roads through an instruction are
+    /// walked: the run's, and the step's with its tests of the record.
+    fn steps(&self) -> Verdict {
+        if !self.passes() {
+            return Ok(());
+        }
+        let (mut control, mut state) = (Control::start(), self.before[0].clone());
+        for (place, field) in fields(&self.bytes) {
+            if let Field::Issue { thread, word } = field {
+                let refusal = step(&mut control, thread, word, &mut state);
+                let fault = format!("the step at {place} answered {refusal:?}");
+                must(refusal.is_none(), &fault)?;
+            } else {
+                act(&control, &field, &mut state);
+                follow_record(&mut control, &field);
+            }
+        }
+        must(state == self.after[0], "run by steps, it ends otherwise")
     }
 
     /// A refusal leaves the state as it stood.
@@ -107,11 +137,11 @@ impl Held {
             return Ok(());
         }
         let (mut control, mut marks) = (Control::start(), Marks::start());
-        for (_, field) in &self.fields {
-            follow(&mut control, &mut marks, field);
+        for (_, field) in shape(&self.bytes).0 {
+            follow(&mut control, &mut marks, &field);
         }
         let changed = changed_rows(self.width(), &self.before[0], &self.after[0]);
-        let set = changed.iter().all(|&row| marks.has_dst(row));
+        let set = changed.iter().all(|&row| marks.dst[row]);
         must(set, "an unset Dst row changed")
     }
 }
@@ -151,6 +181,8 @@ pub fn check(seed: u64, count: u64) -> (String, bool) {
         let tests = [
             Held::agrees,
             Held::reloads,
+            Held::ranges,
+            Held::steps,
             Held::keeps,
             Held::prints,
             Held::leaves,

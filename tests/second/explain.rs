@@ -1,9 +1,9 @@
 //! A job made readable, field by field.
 
 use crate::engine::{
-    named, precheck, raw_at, read, shape, width_of, Answer, Class, Control, Entry, Field, Name,
-    Refusal, Scalar, Slot, Stands, Tag, Width, A, B, COLUMNS, D, FILES, HEADER, JOB_BYTES,
-    SLOT_FLAGS,
+    named, precheck, raw_at, read, row_numbers, settings, shape, width_of, Answer, Class, Control,
+    Entry, Field, Name, Refusal, Scalar, Slot, Stands, Tag, Width, A, B, D, FILES, HEADER,
+    JOB_BYTES, ROW_BYTES, SLOT_FLAGS,
 };
 
 /// The name of a defined mode that has one.
@@ -71,11 +71,12 @@ fn settings_text(record: &Control) -> Vec<String> {
     text
 }
 
-fn load_text(width: Width, file: usize, first: usize, numbers: &[u32]) -> Vec<String> {
+fn load_text(width: Width, file: usize, first: usize, rows: &[u8]) -> Vec<String> {
     let mut text = vec![format!("{} from row {first}", FILES[file])];
     let digits = if file == D { width.digits() } else { 5 };
-    for (n, row) in numbers.chunks(COLUMNS).enumerate() {
-        let row: Vec<String> = row.iter().map(|n| format!("{n:0digits$x}")).collect();
+    for (n, row) in rows.chunks(ROW_BYTES).enumerate() {
+        let row = row_numbers(row).map(|n| format!("{n:0digits$x}"));
+        let row: Vec<String> = row.collect();
         text.push(format!("  row {}: {}", first + n, row.join(" ")));
     }
     text
@@ -84,12 +85,8 @@ fn load_text(width: Width, file: usize, first: usize, numbers: &[u32]) -> Vec<St
 /// A field's values: the first line stands beside its kind, the others below.
 fn values(width: Width, field: &Field) -> Vec<String> {
     vec![match field {
-        Field::Settings(record) => return settings_text(record),
-        Field::LoadRows {
-            file,
-            first,
-            numbers,
-        } => return load_text(width, *file, *first, numbers),
+        Field::Settings(payload) => return settings_text(&settings(payload)),
+        Field::LoadRows { file, first, rows } => return load_text(width, *file, *first, rows),
         Field::LoadRegister {
             thread,
             register,
@@ -143,10 +140,10 @@ pub fn reason(bytes: &[u8], place: usize) -> Reason {
     let Some((byte, payload)) = raw_at(bytes, place) else {
         return Reason::CutPayload;
     };
-    if !tag.length_fits(payload.len()) {
+    let Some(field) = read(byte, payload) else {
         return Reason::WrongLength;
-    }
-    if read(width_of(&shape(bytes).0), byte, payload).is_none() {
+    };
+    if !field.fits(width_of(&shape(bytes).0)) {
         return Reason::WrongValue;
     }
     if (tag.stands() == Stands::FirstAndOnce) != (place == 0) {

@@ -1,20 +1,30 @@
 //! The papers' numbers as jobs: they are stored, and the self-test says what they print.
 
 use crate::engine::{
-    datum, write, Field, Name, A, B, BF16, BLOCK, BLOCK_NUMBERS, COLUMNS, D, DST_ROWS, FP16A, FP32,
-    INT8, JOB_BYTES, MANTISSAS, MOST_DST_ROWS, MVMUL, SHIFTXB, TF32,
+    datum, row_bytes, settings_bytes, write, Control, Field, Name, A, B, BF16, BLOCK,
+    BLOCK_NUMBERS, COLUMNS, D, DST_ROWS, FP16A, FP32, INT8, JOB_BYTES, MANTISSAS, MOST_DST_ROWS,
+    MVMUL, SHIFTXB, TF32,
 };
 
 /// Rows of a multiply.
 const EIGHT: usize = 8;
 const EIGHT_NUMBERS: usize = EIGHT * COLUMNS;
 
-pub fn bytes(fields: &[Field]) -> Vec<u8> {
-    fields.iter().flat_map(write).collect()
+/// A field's bytes.
+pub type Written = Vec<u8>;
+
+pub fn bytes(fields: &[Written]) -> Vec<u8> {
+    fields.concat()
 }
 
-pub fn issue(word: u32) -> Field {
-    Field::Issue { thread: 0, word }
+/// The settings of a format and flags, the rest 0.
+pub fn settings(format: u8, flags: u8) -> Written {
+    let payload = settings_bytes(&Control::under(format, flags));
+    write(&Field::Settings(&payload))
+}
+
+pub fn issue(word: u32) -> Written {
+    write(&Field::Issue { thread: 0, word })
 }
 
 /// An MVMUL with a dst field.
@@ -22,33 +32,30 @@ pub fn mvmul_word(dst: usize) -> u32 {
     MVMUL.word(&[(Name::Dst, dst as u32)])
 }
 
-pub fn mvmul(dst: usize) -> Field {
+pub fn mvmul(dst: usize) -> Written {
     issue(mvmul_word(dst))
 }
 
-pub fn load(file: usize, first: usize, numbers: &[u32]) -> Field {
-    Field::LoadRows {
-        file,
-        first,
-        numbers: numbers.to_vec(),
-    }
+pub fn load(file: usize, first: usize, numbers: &[u32]) -> Written {
+    let rows = &row_bytes(numbers);
+    write(&Field::LoadRows { file, first, rows })
 }
 
-pub fn zero(first: usize, count: usize) -> Field {
-    Field::ZeroRows { first, count }
+pub fn zero(first: usize, count: usize) -> Written {
+    write(&Field::ZeroRows { first, count })
 }
 
-pub fn rows_out(first: usize, count: usize) -> Field {
-    Field::OutputRows { first, count }
+pub fn rows_out(first: usize, count: usize) -> Written {
+    write(&Field::OutputRows { first, count })
 }
 
-pub fn register_out(register: usize) -> Field {
+pub fn register_out(register: usize) -> Written {
     let thread = 0;
-    Field::OutputRegister { thread, register }
+    write(&Field::OutputRegister { thread, register })
 }
 
-pub fn hand_over(file: usize) -> Field {
-    Field::HandOver { file }
+pub fn hand_over(file: usize) -> Written {
+    write(&Field::HandOver { file })
 }
 
 /// The datum of a power of two.
@@ -70,7 +77,7 @@ pub fn column_0(numbers: &[u32]) -> Vec<u32> {
 }
 
 /// The fields that load SrcA rows and one row of SrcB above seven of zeros, and hand both over.
-fn ready(a_rows: &[u32], b_row: &[u32]) -> Vec<Field> {
+fn ready(a_rows: &[u32], b_row: &[u32]) -> Vec<Written> {
     let mut b_rows = vec![0; EIGHT_NUMBERS];
     b_rows[..b_row.len()].copy_from_slice(b_row);
     vec![
@@ -83,8 +90,8 @@ fn ready(a_rows: &[u32], b_row: &[u32]) -> Vec<Field> {
 
 /// A job of document 01 with both Src files ready and eight Dst rows of zeros; then the fields
 /// given, and the first Dst row as output.
-pub fn row_job(a_rows: &[u32], b_row: &[u32], fields: &[Field]) -> Vec<Field> {
-    let mut job = vec![Field::settings(TF32, FP32)];
+pub fn row_job(a_rows: &[u32], b_row: &[u32], fields: &[Written]) -> Vec<Written> {
+    let mut job = vec![settings(TF32, FP32)];
     job.extend(ready(a_rows, b_row));
     job.push(zero(0, EIGHT));
     job.extend_from_slice(fields);
@@ -120,12 +127,12 @@ pub fn paper_jobs() -> Vec<Vec<u8>> {
 // ------------------------------------------------------------------------- Dst rows of 16 bits
 
 /// A job with 16-bit Dst rows.
-pub fn in_halves(fields: &[Field]) -> Vec<Field> {
-    [&[Field::settings(BF16, 0)], fields].concat()
+pub fn in_halves(fields: &[Written]) -> Vec<Written> {
+    [&[settings(BF16, 0)], fields].concat()
 }
 
 /// SrcA's column 0 with these powers of two from the top down, and SrcB's row 0 with ones.
-pub fn powers(exponents: &[i32]) -> Vec<Field> {
+pub fn powers(exponents: &[i32]) -> Vec<Written> {
     let numbers = exponents.iter().map(|&exponent| power(false, exponent));
     let numbers: Vec<u32> = numbers.collect();
     ready(&column_0(&numbers), &vec![one(); exponents.len()])
@@ -137,14 +144,14 @@ pub fn four_rows() -> Vec<u32> {
 }
 
 /// Loads, zeroing and output from row 510 to 513.
-pub fn across() -> Vec<Field> {
+pub fn across() -> Vec<Written> {
     let load = load(D, DST_ROWS - 2, &four_rows());
     in_halves(&[load, zero(DST_ROWS - 1, 2), rows_out(DST_ROWS - 2, 4)])
 }
 
 /// A multiply into Dst rows of zeros: 1 + 2^-8 + 2^-26.
-pub fn rounded_sum(format: u8, flags: u8, dst: usize) -> Vec<Field> {
-    let mut job = vec![Field::settings(format, flags)];
+pub fn rounded_sum(format: u8, flags: u8, dst: usize) -> Vec<Written> {
+    let mut job = vec![settings(format, flags)];
     job.extend(powers(&[0, -8, -26]));
     let lent = zero(dst % DST_ROWS, EIGHT);
     job.extend([lent, zero(dst, EIGHT), mvmul(dst), rows_out(dst, 1)]);
@@ -152,7 +159,7 @@ pub fn rounded_sum(format: u8, flags: u8, dst: usize) -> Vec<Field> {
 }
 
 /// A multiply into the high halves of lent rows 0 to 7, both halves loaded and put out.
-pub fn both_halves() -> Vec<Field> {
+pub fn both_halves() -> Vec<Written> {
     let mut job = in_halves(&powers(&[0, 0, 0]));
     job.extend([
         load(D, 0, &[0x3F80; EIGHT_NUMBERS]),
@@ -184,7 +191,7 @@ pub const ROUNDED: [Rounded; 14] = [
 ];
 
 /// These in one multiply, each in a column of its own, in row 512.
-pub fn rounded_row() -> Vec<Field> {
+pub fn rounded_row() -> Vec<Written> {
     // SrcB's row is 1, 1 and 2^-34, the last for powers that SrcA alone does not reach.
     const SMALL: i32 = -34;
     let mut a_rows = vec![0; BLOCK_NUMBERS];
@@ -210,11 +217,11 @@ pub fn rounded_row() -> Vec<Field> {
 }
 
 /// A row of zeros at 0, and one at a chosen row that ends with this number.
-pub fn ending(format: u8, flags: u8, row: usize, number: u32) -> Vec<Field> {
+pub fn ending(format: u8, flags: u8, row: usize, number: u32) -> Vec<Written> {
     let mut numbers = [0x7F80; COLUMNS];
     numbers[COLUMNS - 1] = number;
     vec![
-        Field::settings(format, flags),
+        settings(format, flags),
         zero(0, 1),
         load(D, row, &numbers),
         rows_out(row, 1),

@@ -3,9 +3,10 @@
 use super::multiplies;
 use super::table::{Group, Table, Test};
 use crate::engine::{
-    change_numbers, operands, register_at, Class, Control, Instruction, Name, Owner, Scalar, Slot,
-    State, Thread, A, B, COUNTERS, D, DST_CARRY, DST_CLEAR, DST_COPY, DST_COUNTS, FIDELITY_CLEAR,
-    FILES, PHASES, SLOT_FLAGS, SRC, SRC_CARRY, SRC_CLEAR, SRC_COUNTS, SRC_ROWS,
+    change_numbers, operands, register_at, Class, Control, Instruction, Owner, Scalar, Slot, State,
+    Thread, A, B, BOTH_BANKS, CLEAR, CONSTANT, COUNTERS, COUNTER_D, D, DST_CARRY, DST_CLEAR,
+    DST_COPY, DST_COUNTS, FIDELITY_CLEAR, FILES, PHASES, RESULT, ROW, SLOT_FLAGS, SRC, SRC_CARRY,
+    SRC_CLEAR, SRC_COUNTS, SRC_ROWS, VALUE, WHICH, WRITE_MODE, ZEROED, ZERO_FILL,
 };
 
 /// An instruction, and what it meets.
@@ -35,16 +36,16 @@ pub fn count(table: &mut Table, issued: Issued) {
     let name = it.entry.name;
     table.hit(Group::IssueThread, issued.thread);
     table.hit(Group::PassingOpcode, name);
-    if let Some(mode) = it.find(Name::Mode) {
-        table.hit(Group::PassingMode, format!("{name} {mode}"));
+    if it.entry.mode.is_some() {
+        table.hit(Group::PassingMode, format!("{name} {}", it.mode()));
     }
-    if let Some(number) = it.find(Name::Slot) {
+    if let Some(number) = it.slot() {
         let slot = t.slot(number);
         table.hit(Group::SlotUsed, slot);
         table.hit_tests(Group::SlotFlag, slot_flags(&t.slots[slot]));
         table.hit_tests(Group::SlotWraps, slot_wraps(t, &t.slots[slot]));
     }
-    for file in it.cleared() {
+    for file in SRC.into_iter().filter(|&file| it.clears(file)) {
         let early = !issued.control.matrix_has(file);
         table.hit_if(early, Group::ClearedEarly, FILES[file]);
     }
@@ -55,14 +56,14 @@ fn count_class(table: &mut Table, issued: Issued) {
     let (it, t) = (issued.it, issued.thread());
     match it.entry.class {
         Class::Multiply { .. } => multiplies::count(table, issued),
-        Class::Legacy => table.hit(Group::LegacyClear, it.get(Name::Clear)),
+        Class::Legacy => table.hit(Group::LegacyClear, it.get(CLEAR)),
         Class::SetRwc => {
-            table.hit(Group::SetrwcClear, it.get(Name::Clear));
-            table.hit(Group::SetrwcWhich, it.get(Name::Which));
+            table.hit(Group::SetrwcClear, it.get(CLEAR));
+            table.hit(Group::SetrwcWhich, it.get(WHICH));
         }
         Class::IncRwc => table.hit_tests(Group::IncrwcWraps, counter_wraps(t, it)),
         Class::ZeroSrc => {
-            let files = it.get(Name::FileA) + 2 * it.get(Name::FileB);
+            let files = it.get(ZEROED[A]) + 2 * it.get(ZEROED[B]);
             table.hit(Group::ZerosrcFiles, files);
             table.hit_tests(Group::Zerosrc, zerosrc(issued.control, it));
         }
@@ -72,7 +73,7 @@ fn count_class(table: &mut Table, issued: Issued) {
             let (_, b) = operands(issued.thread, it, issued.state);
             table.hit_tests(Group::ScalarB, scalar_b(scalar, it, b));
             if scalar == Scalar::Compare {
-                let result = register_at(issued.thread, it.get(Name::Result) as usize);
+                let result = register_at(issued.thread, it.get(RESULT) as usize);
                 table.hit(Group::ScalarCompare, issued.after().registers[result]);
             }
         }
@@ -116,17 +117,19 @@ pub fn slot_wraps(t: &Thread, slot: &Slot) -> [Test; 4] {
 pub fn counter_wraps(t: &Thread, it: Instruction) -> [Test; 3] {
     let src = |file: usize| t.src[file] + it.get(COUNTERS[file]) as u8 >= SRC_COUNTS;
     let [a, b] = SRC.map(|file| (FILES[file], src(file)));
-    let dst = t.dst + it.get(Name::CounterD) as u16 >= DST_COUNTS;
+    let dst = t.dst + it.get(COUNTER_D) as u16 >= DST_COUNTS;
     [a, b, (FILES[D], dst)]
 }
 
 pub fn zerosrc(control: &Control, it: Instruction) -> [Test; 6] {
-    let both = it.on(Name::BothBanks);
-    let (mode, value) = (it.on(Name::WriteMode), it.get(Name::Value));
-    let a = it.on(Name::FileA);
+    let both = it.on(BOTH_BANKS);
+    let (mode, value) = (it.on(WRITE_MODE), it.get(VALUE));
+    let a = it.on(ZEROED[A]);
     let high = mode && value != 0;
-    let owner = |(file, bank): (usize, usize)| control.owner[file][bank];
-    let of_matrix = it.filled(control).any(|bank| owner(bank) == Owner::Matrix);
+    let banks = [(A, 0), (A, 1), (B, 0), (B, 1)];
+    let of_matrix = banks.iter().any(|&(file, bank)| {
+        it.fills(control, file, bank) && control.owner[file][bank] == Owner::Matrix
+    });
     [
         ("one bank", !both),
         ("both banks", both),
@@ -138,8 +141,8 @@ pub fn zerosrc(control: &Control, it: Instruction) -> [Test; 6] {
 }
 
 pub fn shiftxb(t: &Thread, it: Instruction) -> [Test; 3] {
-    let fill = it.on(Name::ZeroFill);
-    let row = it.get(Name::Row) as usize + usize::from(t.src[B]);
+    let fill = it.on(ZERO_FILL);
+    let row = it.get(ROW) as usize + usize::from(t.src[B]);
     [
         ("rotate", !fill),
         ("zero fill", fill),
@@ -148,7 +151,7 @@ pub fn shiftxb(t: &Thread, it: Instruction) -> [Test; 3] {
 }
 
 pub fn scalar_b(scalar: Scalar, it: Instruction, b: u32) -> [Test; 3] {
-    let constant = it.on(Name::Constant);
+    let constant = it.on(CONSTANT);
     [
         ("constant", constant),
         ("register", !constant),

@@ -6,8 +6,8 @@ use super::data;
 use super::issues::Issued;
 use super::table::{Group, Table};
 use crate::engine::{
-    change_numbers, parts, reads, src_at, takes_low, Name, Span, State, Width, COLUMNS, DST_COUNTS,
-    DST_ROWS, FILES, FP32, MOST_DST_ROWS,
+    change_numbers, parts, src_at, takes_low, State, Width, A, B, BLOCK, CLEAR, COLUMNS,
+    DST_COUNTS, DST_ROWS, FILES, FP32, MOST_DST_ROWS,
 };
 
 /// By file, by width and by sign.
@@ -21,20 +21,23 @@ pub fn count(table: &mut Table, issued: Issued) {
     let (name, phase) = (it.entry.name, control.phase(issued.thread));
     table.hit(Group::MultiplyFormat, control.format);
     table.hit(Group::MultiplyPhase, format!("{name} {phase}"));
-    let clear = it.get(Name::Clear);
+    let clear = it.get(CLEAR);
     table.hit(Group::MultiplyClear, format!("{name} {clear}"));
-    for span in reads(control, issued.thread, it).into_iter().flatten() {
-        if let Span::Src { file, bank, rows } = span {
-            table.hit(Group::MultiplyBank, format!("{} {bank}", FILES[file]));
-            let place = if rows.start == 0 { "0" } else { "other" };
-            table.hit(Group::MultiplyRow, format!("{} {place}", FILES[file]));
-            let low = takes_low(phase, file);
-            let place = src_at(bank, rows.start)..src_at(bank, rows.end);
-            for &number in &issued.state.src(file)[place] {
-                let [_, low_part] = parts(file, control.format, number);
-                let tests = data::src(control.format, number, low_part, low);
-                table.hit_tests(DATUM[file], tests);
-            }
+    let reads = [
+        (A, control.a_row(issued.thread), BLOCK),
+        (B, control.b_row(issued.thread), rows_of(issued).len()),
+    ];
+    for (file, first, count) in reads {
+        let bank = control.matrix_bank(file);
+        table.hit(Group::MultiplyBank, format!("{} {bank}", FILES[file]));
+        let place = if first == 0 { "0" } else { "other" };
+        table.hit(Group::MultiplyRow, format!("{} {place}", FILES[file]));
+        let low = takes_low(phase, file);
+        let numbers = &issued.state.src(file)[src_at(bank, first)..][..count * COLUMNS];
+        for &number in numbers {
+            let [_, low_part] = parts(file, control.format, number);
+            let tests = data::src(control.format, number, low_part, low);
+            table.hit_tests(DATUM[file], tests);
         }
     }
     count_dst(table, issued);

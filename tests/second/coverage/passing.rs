@@ -4,8 +4,8 @@ use super::issues::{self, Issued};
 use super::table::{Group, Table, Test};
 use super::{dst_rows, mode, Mode, MULTIPLY};
 use crate::engine::{
-    act, follow, named, ranged, raw_at, shape, width_of, Control, Field, Instruction, Marks, State,
-    Width, COLUMNS, D, DST_ROWS, FIELD_ROWS, FILES, JOB_BYTES,
+    act, follow, named, ranged, raw_at, row_numbers, settings, shape, width_of, Control, Field,
+    Instruction, Marks, State, Width, D, DST_ROWS, FIELD_ROWS, FILES, JOB_BYTES, ROW_BYTES,
 };
 
 named! {
@@ -58,7 +58,7 @@ fn count_halves(table: &mut Table, control: &Control, marks: &Marks, field: &Fie
         };
         table.hit(Group::HalfRows, format!("{name} {}", place.text()));
     }
-    let beside = rows.any(|row| marks.has_dst(row ^ DST_ROWS));
+    let beside = rows.any(|row| marks.dst[row ^ DST_ROWS]);
     let writes = beside && !matches!(field, Field::OutputRows { .. });
     table.hit_if(writes, Group::WrittenHalf, name);
 }
@@ -74,9 +74,9 @@ pub fn load_tests(rows: usize) -> [Test; 2] {
 /// A settings' mode in which nothing is modelled: Dst is as in the 32-bit mode.
 pub fn neither_tests(field: &Field) -> [Test; 2] {
     let wide = match field {
-        Field::LoadRows {
-            file: D, numbers, ..
-        } => numbers.iter().any(|&number| number > Width::Bits16.top()),
+        Field::LoadRows { file: D, rows, .. } => {
+            row_numbers(rows).any(|number| number > Width::Bits16.top())
+        }
         _ => false,
     };
     let last = match field {
@@ -91,9 +91,11 @@ fn count_field(table: &mut Table, control: &Control, field: &Field, state: &Stat
         table.hit_tests(Group::NeitherMode, neither_tests(field));
     }
     match field {
-        Field::Settings(record) => table.hit(Group::PassingSettings, mode(record).text()),
-        Field::LoadRows { file, numbers, .. } => {
-            table.hit_tests(Group::LoadRows, load_tests(numbers.len() / COLUMNS));
+        Field::Settings(payload) => {
+            table.hit(Group::PassingSettings, mode(&settings(payload)).text());
+        }
+        Field::LoadRows { file, rows, .. } => {
+            table.hit_tests(Group::LoadRows, load_tests(rows.len() / ROW_BYTES));
             if *file != D {
                 let bank = control.unpackers_bank(*file);
                 table.hit(Group::LoadBank, format!("{} {bank}", FILES[*file]));

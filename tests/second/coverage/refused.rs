@@ -3,9 +3,9 @@
 use super::table::{Group, Table, Test};
 use super::{dst_rows, mode};
 use crate::engine::{
-    follow, named, ranged, raw_at, read, reads, shape, width_of, Class, Control, Field,
-    Instruction, Marks, Name, Placed, Refusal, Tag, Width, BF16, DST_ROWS, FIELD_ROWS, FILES,
-    FP16A, FP32, INT8, JOB_BYTES, LOAD_HEAD, ROW_BYTES, TF32,
+    all_set, follow, named, ranged, raw_at, read, settings, shape, width_of, Class, Control, Field,
+    Instruction, Marks, Placed, Refusal, Tag, Width, A, B, BF16, BLOCK, DST_ROWS, FIELD_ROWS,
+    FILES, FP16A, FP32, INT8, JOB_BYTES, LOAD_HEAD, REGISTER_A, ROW_BYTES, TF32,
 };
 use crate::explain::{reason, Reason};
 
@@ -32,8 +32,8 @@ pub fn count(table: &mut Table, bytes: &[u8], refusal: Refusal, place: usize) {
     table.hit(Group::Jobs, "refused");
     table.hit(Group::RefusalNumber, refusal.number());
     let fields = shape(bytes).0;
-    if let Some((_, Field::Settings(record))) = fields.first() {
-        table.hit(Group::RefusedSettings, mode(record).text());
+    if let Some((_, Field::Settings(payload))) = fields.first() {
+        table.hit(Group::RefusedSettings, mode(&settings(payload)).text());
     }
     if refusal == Refusal::Shape {
         return count_shape(table, bytes, place, &fields);
@@ -76,10 +76,12 @@ pub fn load_tests(length: usize) -> [Test; 2] {
 fn count_value(table: &mut Table, tag: u8, payload: &[u8], fields: &[Placed]) {
     let width = width_of(fields);
     let other = Width::ALL[1 - width as usize];
-    if let Some((_, Field::Settings(record))) = fields.first() {
-        match (width, read(other, tag, payload)) {
+    if let Some((_, Field::Settings(first))) = fields.first() {
+        let right = read(tag, payload).filter(|field| field.fits(other));
+        match (width, right) {
             (Width::Bits32, Some(field)) => {
-                let row = format!("{}, {}", mode(record).text(), field.tag().text());
+                let mode = mode(&settings(first)).text();
+                let row = format!("{mode}, {}", field.tag().text());
                 table.hit(Group::RightWith16, row);
             }
             (Width::Bits16, Some(field)) => table.hit(Group::RightWith32, field.tag().text()),
@@ -152,9 +154,8 @@ pub fn mode_rows(name: &str, bits: u32, mode: u32) -> Vec<String> {
 }
 
 fn count_mode(table: &mut Table, it: Instruction) {
-    let bits = it.entry.find(Name::Mode).expect("bits of this name");
-    let mode = bits.get(it.word);
-    for row in mode_rows(it.entry.name, bits.count(), mode) {
+    let bits = it.entry.mode.expect("an entry with modes");
+    for row in mode_rows(it.entry.name, bits.count(), it.mode()) {
         table.hit(Group::UndefinedMode, row);
     }
 }
@@ -180,15 +181,16 @@ fn first_unset(control: &Control, marks: &Marks, field: &Field) -> Unset {
         _ => return Unset::OutputRegister,
     };
     let it = Instruction::of(word).expect("a word that breaks only rule 8");
-    let mut reads = reads(control, thread, it).into_iter().flatten();
-    let first = reads.position(|span| !marks.has(&span));
-    match (it.entry.class, first) {
-        (Class::Multiply { .. }, Some(0)) => Unset::MultiplyA,
-        (Class::Multiply { .. }, Some(1)) => Unset::MultiplyB,
-        (Class::Multiply { .. }, _) => Unset::MultiplyDst,
-        (Class::ShiftXa, _) => Unset::ShiftXa,
-        (Class::ShiftXb, _) => Unset::ShiftXb,
-        (_, Some(0)) => Unset::ScalarA,
+    let src = |file: usize, first: usize, count: usize| {
+        all_set(&marks.src[file][control.matrix_bank(file)][first..][..count])
+    };
+    match it.entry.class {
+        Class::Multiply { .. } if !src(A, control.a_row(thread), BLOCK) => Unset::MultiplyA,
+        Class::Multiply { rows, .. } if !src(B, control.b_row(thread), rows) => Unset::MultiplyB,
+        Class::Multiply { .. } => Unset::MultiplyDst,
+        Class::ShiftXa => Unset::ShiftXa,
+        Class::ShiftXb => Unset::ShiftXb,
+        _ if !marks.registers[thread][it.get(REGISTER_A) as usize] => Unset::ScalarA,
         _ => Unset::ScalarB,
     }
 }
@@ -201,7 +203,7 @@ fn count_unset(table: &mut Table, control: &Control, marks: &Marks, field: &Fiel
     }
     if let Some((name, mut rows)) = dst_rows(control, field) {
         // Where marks were kept for lent rows, this would pass.
-        let hidden = rows.all(|row| marks.has_dst(row) || marks.has_dst(row ^ DST_ROWS));
+        let hidden = rows.all(|row| marks.dst[row] || marks.dst[row ^ DST_ROWS]);
         table.hit_if(hidden, Group::UnsetHalf, name);
     }
 }

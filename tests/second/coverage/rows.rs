@@ -4,7 +4,7 @@ use super::multiplies::{AFTER, BEFORE, DATUM, ROUNDING};
 use super::table::{Group, Table};
 use super::{data, issues, passing, refused, Mode, MULTIPLY};
 use crate::engine::{
-    Control, Entry, Field, Instruction, Name, Refusal, Scalar, Slot, Tag, Thread, What, Width,
+    Control, Entry, Field, Instruction, Name, Refusal, Scalar, Slot, Tag, Thread, What, Width, A,
     BANKS, BF16, BITWOPDMAREG, BLOCK, FILES, INCRWC, PHASES, SHIFTXB, SLOTS, SRC, SRC_ROWS, TABLE,
     TF32, THREADS, ZEROSRC,
 };
@@ -80,10 +80,7 @@ fn enter_refusals(table: &mut Table) {
     table.enter(Group::UnnamedBit, (0..24).map(refused::bit_row));
     table.enter(Group::Unmodelled, multiplies());
     table.enter_tests(Group::Unmodelled, refused::unmodelled(&Control::start()));
-    table.enter(
-        Group::OtherOwner,
-        names(|entry| !entry.class.needs().is_empty()),
-    );
+    table.enter(Group::OtherOwner, names(|entry| entry.class.needs_a_bank()));
     for tag in [Tag::LoadRows, Tag::HandOver] {
         let rows = SRC.map(|file| refused::owner_row(tag, file));
         table.enter(Group::OtherOwner, rows);
@@ -115,7 +112,7 @@ fn enter_halves(table: &mut Table) {
     table.enter(Group::HalfMultiply, ["into the last rows"]);
     let written = [Tag::LoadRows.text(), Tag::ZeroRows.text(), MULTIPLY];
     table.enter(Group::WrittenHalf, written);
-    let neither = passing::neither_tests(&Field::settings(0, 0));
+    let neither = passing::neither_tests(&Field::HandOver { file: A });
     table.enter_tests(Group::NeitherMode, neither);
 }
 

@@ -1,34 +1,50 @@
 //! What an instruction does to the record.
 
 use super::{
-    Class, Control, Instruction, Name, Owner, Slot, Thread, COUNTERS, DST_CARRY, DST_CLEAR,
-    DST_COPY, DST_COUNTS, FIDELITY_CLEAR, PHASES, SRC, SRC_CARRY, SRC_CLEAR, SRC_COUNTS,
+    Class, Control, Instruction, Owner, Slot, Thread, COUNTERS, COUNTER_D, DST_CARRY, DST_CLEAR,
+    DST_COPY, DST_COUNTS, FIDELITY_CLEAR, PHASES, SRC, SRC_CARRY, SRC_CLEAR, SRC_COUNTS, WHICH,
 };
 
 /// SETRWC's bits for Dst and the phase; those for SrcA and SrcB are 0 and 1.
 const WHICH_DST: u32 = 4;
 const WHICH_PHASE: u32 = 8;
 
-/// Clear comes before the slot.
+#[inline]
 pub fn change_record(control: &mut Control, thread: usize, it: Instruction) {
-    if it.entry.class.is_multiply() {
-        control.last = control.a_row(thread) as u8;
-    }
-    for file in it.cleared() {
-        let bank = control.matrix_bank(file);
-        control.owner[file][bank] = Owner::Unpackers;
-        control.matrix[file] = 1 - control.matrix[file];
-    }
-    let t = &mut control.threads[thread];
-    if let Some(number) = it.find(Name::Slot) {
-        apply_slot(t, t.slots[t.slot(number)]);
-    }
     match it.entry.class {
-        Class::SetRwc => set_counters(t, it),
-        Class::IncRwc => add_to_counters(t, it),
-        Class::Multiply { .. } | Class::Legacy | Class::ZeroSrc | Class::ShiftXa => {}
-        Class::ShiftXb | Class::Nothing | Class::Scalar(_) => {}
+        Class::Multiply { .. } => {
+            control.last = control.a_row(thread) as u8;
+            clear(control, it);
+            use_slot(control, thread, it);
+        }
+        Class::Legacy => {
+            clear(control, it);
+            use_slot(control, thread, it);
+        }
+        Class::SetRwc => {
+            clear(control, it);
+            set_counters(&mut control.threads[thread], it);
+        }
+        Class::IncRwc => add_to_counters(&mut control.threads[thread], it),
+        Class::ShiftXb => use_slot(control, thread, it),
+        Class::ZeroSrc | Class::ShiftXa | Class::Nothing | Class::Scalar(_) => {}
     }
+}
+
+fn clear(control: &mut Control, it: Instruction) {
+    for file in SRC {
+        if it.clears(file) {
+            let bank = control.matrix_bank(file);
+            control.owner[file][bank] = Owner::Unpackers;
+            control.matrix[file] = 1 - control.matrix[file];
+        }
+    }
+}
+
+fn use_slot(control: &mut Control, thread: usize, it: Instruction) {
+    let t = &mut control.threads[thread];
+    let number = it.slot().expect("an instruction with a slot");
+    apply_slot(t, t.slots[t.slot(number)]);
 }
 
 fn apply_slot(thread: &mut Thread, slot: Slot) {
@@ -63,7 +79,7 @@ fn apply_slot(thread: &mut Thread, slot: Slot) {
 }
 
 fn set_counters(thread: &mut Thread, it: Instruction) {
-    let which = it.get(Name::Which);
+    let which = it.get(WHICH);
     for file in SRC {
         if (which >> file) & 1 == 1 {
             let value = it.get(COUNTERS[file]) as u8;
@@ -71,7 +87,7 @@ fn set_counters(thread: &mut Thread, it: Instruction) {
         }
     }
     if which & WHICH_DST != 0 {
-        let value = it.get(Name::CounterD) as u16;
+        let value = it.get(COUNTER_D) as u16;
         (thread.dst, thread.dst_cr) = (value, value);
     }
     if which & WHICH_PHASE != 0 {
@@ -84,5 +100,5 @@ fn add_to_counters(thread: &mut Thread, it: Instruction) {
         let counter = &mut thread.src[file];
         *counter = (*counter + it.get(COUNTERS[file]) as u8) % SRC_COUNTS;
     }
-    thread.dst = (thread.dst + it.get(Name::CounterD) as u16) % DST_COUNTS;
+    thread.dst = (thread.dst + it.get(COUNTER_D) as u16) % DST_COUNTS;
 }

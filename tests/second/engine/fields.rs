@@ -1,8 +1,10 @@
-//! The job's fields: the table of tags, and a field's values.
+//! The job's fields: the table of tags, a field's values, and their ranges.
 
 use std::ops::Range;
 
-use super::{named, Control, COLUMNS, D, FIELD_ROWS};
+use super::{
+    named, rows_of, settings, top_of, Width, B, COLUMNS, D, FIELD_ROWS, REGISTERS, THREADS,
+};
 
 /// A tag and a length of two bytes stand before a payload.
 pub const HEADER: usize = 3;
@@ -45,22 +47,6 @@ impl Tag {
         self as u8 + 1
     }
 
-    pub fn length_fits(self, length: usize) -> bool {
-        match self {
-            Tag::Settings => length == SETTINGS_BYTES,
-            Tag::LoadRows => {
-                let rows = length.saturating_sub(LOAD_HEAD) / ROW_BYTES;
-                (1..=FIELD_ROWS).contains(&rows) && length == LOAD_HEAD + ROW_BYTES * rows
-            }
-            Tag::LoadRegister => length == 6,
-            Tag::HandOver => length == 1,
-            Tag::Issue => length == 5,
-            Tag::OutputRows => length == 3,
-            Tag::OutputRegister => length == 2,
-            Tag::ZeroRows => length == 4,
-        }
-    }
-
     pub fn stands(self) -> Stands {
         match self {
             Tag::Settings => Stands::FirstAndOnce,
@@ -71,14 +57,14 @@ impl Tag {
     }
 }
 
-#[derive(Debug, Clone, PartialEq, Eq)]
-pub enum Field {
-    /// The start record with the settings in it, as settings are the first field.
-    Settings(Box<Control>),
+/// A field's values; settings and rows stay as they stand in the payload.
+#[derive(Debug, Clone, Copy, PartialEq, Eq)]
+pub enum Field<'a> {
+    Settings(&'a [u8]),
     LoadRows {
         file: usize,
         first: usize,
-        numbers: Vec<u32>,
+        rows: &'a [u8],
     },
     LoadRegister {
         thread: usize,
@@ -106,7 +92,20 @@ pub enum Field {
     },
 }
 
-impl Field {
+/// The numbers of loaded rows.
+#[inline]
+pub fn row_numbers(rows: &[u8]) -> impl ExactSizeIterator<Item = u32> + '_ {
+    let number = |bytes: &[u8]| u32::from_le_bytes([bytes[0], bytes[1], bytes[2], bytes[3]]);
+    rows.chunks_exact(4).map(number)
+}
+
+/// Rows of these numbers.
+pub fn row_bytes(numbers: &[u32]) -> Vec<u8> {
+    numbers.iter().flat_map(|n| n.to_le_bytes()).collect()
+}
+
+impl Field<'_> {
+    #[inline]
     pub fn tag(&self) -> Tag {
         match self {
             Field::Settings(_) => Tag::Settings,
@@ -120,45 +119,42 @@ impl Field {
         }
     }
 
-    /// A field of a tag, with a payload of so many bytes that are all 0.
+    /// Is each value as the job's table says, for a Dst of this width?
     #[inline]
-    pub fn blank(tag: Tag, length: usize) -> Field {
-        let (thread, register, file, first, count) = (0, 0, 0, 0, 0);
-        match tag {
-            Tag::Settings => Field::Settings(Box::default()),
-            Tag::LoadRows => Field::LoadRows {
-                file,
-                first,
-                numbers: vec![0; (length - LOAD_HEAD) / 4],
-            },
-            Tag::LoadRegister => Field::LoadRegister {
-                thread,
-                register,
-                value: 0,
-            },
-            Tag::HandOver => Field::HandOver { file },
-            Tag::Issue => Field::Issue { thread, word: 0 },
-            Tag::OutputRows => Field::OutputRows { first, count },
-            Tag::OutputRegister => Field::OutputRegister { thread, register },
-            Tag::ZeroRows => Field::ZeroRows { first, count },
+    pub fn fits(&self, width: Width) -> bool {
+        match *self {
+            Field::Settings(payload) => settings(payload).settings_in_range(),
+            Field::LoadRows { file, first, rows } => {
+                file <= D && first + rows.len() / ROW_BYTES <= rows_of(file, width) && {
+                    let top = top_of(file, width);
+                    row_numbers(rows).all(|number| number <= top)
+                }
+            }
+            Field::LoadRegister {
+                thread, register, ..
+            }
+            | Field::OutputRegister { thread, register } => {
+                thread < THREADS && register < REGISTERS
+            }
+            Field::HandOver { file } => file <= B,
+            Field::Issue { thread, .. } => thread < THREADS,
+            Field::OutputRows { first, count } => {
+                (1..=FIELD_ROWS).contains(&count) && first + count <= width.rows()
+            }
+            Field::ZeroRows { first, count } => 1 <= count && first + count <= width.rows(),
         }
-    }
-
-    /// The settings field of a format and flags, the rest 0.
-    pub fn settings(format: u8, flags: u8) -> Field {
-        Field::Settings(Box::new(Control::under(format, flags)))
     }
 
     /// The Dst rows that it names.
     pub fn dst_rows(&self) -> Option<Range<usize>> {
-        match self {
+        match *self {
             Field::LoadRows {
                 file: D,
                 first,
-                numbers,
-            } => Some(*first..first + numbers.len() / COLUMNS),
+                rows,
+            } => Some(first..first + rows.len() / ROW_BYTES),
             Field::OutputRows { first, count } | Field::ZeroRows { first, count } => {
-                Some(*first..first + count)
+                Some(first..first + count)
             }
             _ => None,
         }

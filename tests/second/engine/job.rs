@@ -1,19 +1,18 @@
 //! Whole jobs.
 
 use super::{
-    act, follow, judge, register_at, shape, step, width_of, Answer, Control, Field, Marks, Refusal,
-    State, Width, COLUMNS,
+    act, change_numbers, fields, follow, follow_record, judge, register_at, rules, shape, width_of,
+    wrong_place, Answer, Control, Field, Instruction, Marks, Refusal, State, Width, COLUMNS,
 };
 
 /// Judges the whole shape, then field after field.
 pub fn precheck(job: &[u8]) -> Answer {
-    let (fields, wrong) = shape(job);
-    if let Some(place) = wrong {
+    if let Some(place) = wrong_place(job) {
         return Refusal::Shape.at(place);
     }
     let (mut control, mut marks) = (Control::start(), Marks::start());
     let mut issued = 0;
-    for (place, field) in fields {
+    for (place, field) in fields(job) {
         if let Some(refusal) = judge(&control, &marks, &field) {
             return refusal.at(place);
         }
@@ -24,15 +23,14 @@ pub fn precheck(job: &[u8]) -> Answer {
 }
 
 pub fn run(job: &[u8], state: &mut State) -> Answer {
-    run_with(job, state, step)
+    run_with(job, state, change_numbers)
 }
 
-/// The job run with another single step in place of ours: so both roads through an instruction are
-/// walked, the pre-check's and the step's.
+/// The job run with another function for what an instruction does to the lent numbers.
 pub fn run_with(
     job: &[u8],
     state: &mut State,
-    step: impl Fn(&mut Control, usize, u32, &mut State) -> Option<Refusal>,
+    change_numbers: impl Fn(&Control, usize, Instruction, &mut State),
 ) -> Answer {
     if !state.fits() {
         return Refusal::LentLength.at(0);
@@ -41,17 +39,17 @@ pub fn run_with(
     if let Answer::Refused { .. } = answer {
         return answer;
     }
-    // The marks were the pre-check's concern; here they only come along.
-    let (mut control, mut marks) = (Control::start(), Marks::start());
-    for (place, field) in shape(job).0 {
+    let mut control = Control::start();
+    for (place, field) in fields(job) {
         if let Field::Issue { thread, word } = field {
-            if step(&mut control, thread, word, state).is_some() {
-                return Refusal::AfterPrecheck.at(place);
+            match rules(&control, thread, word) {
+                Err(_) => return Refusal::AfterPrecheck.at(place),
+                Ok(it) => change_numbers(&control, thread, it, state),
             }
         } else {
             act(&control, &field, state);
-            follow(&mut control, &mut marks, &field);
         }
+        follow_record(&mut control, &field);
     }
     answer
 }

@@ -14,10 +14,10 @@ mod fields;
 mod files;
 mod job;
 mod judge;
-mod layout;
 mod marks;
 mod named;
 mod numbers;
+mod ranges;
 mod record;
 mod rules;
 mod shape;
@@ -31,7 +31,7 @@ mod word;
 pub(crate) use named::named;
 #[allow(unused_imports)]
 pub use {
-    answer::*, bytes::*, counters::*, datum::*, fields::*, files::*, job::*, judge::*,
-    layout::What, marks::*, numbers::*, record::*, rules::*, shape::*, sizes::*, state::*, step::*,
-    table::*, width::*, word::*,
+    answer::*, bytes::*, counters::*, datum::*, fields::*, files::*, job::*, judge::*, marks::*,
+    numbers::*, ranges::*, record::*, rules::*, shape::*, sizes::*, state::*, step::*, table::*,
+    width::*, word::*,
 };

@@ -1,8 +1,9 @@
 //! What an instruction does to the lent numbers.
 
 use super::{
-    parts, register_at, src_at, takes_low, Class, Control, Instruction, Name, Scalar, State, A, B,
-    BANK_NUMBERS, BLOCK, BLOCK_NUMBERS, COLUMNS,
+    parts, register_at, src_at, takes_low, Class, Control, Instruction, Scalar, State, A, B, BANKS,
+    BANK_NUMBERS, BLOCK, BLOCK_NUMBERS, COLUMNS, CONSTANT, REGISTER_A, REGISTER_B, RESULT, SRC,
+    VALUE, WRITE_MODE, ZERO_FILL,
 };
 
 /// What ZEROSRC fills SrcA with under write mode 1 and a value.
@@ -11,6 +12,7 @@ const HIGH_FILL: u32 = 0x7FFFF;
 const RIGHT: u32 = 2;
 
 /// Under the record as it stands before the instruction.
+#[inline]
 pub fn change_numbers(control: &Control, thread: usize, it: Instruction, state: &mut State) {
     match it.entry.class {
         Class::Multiply { .. } => multiply(control, thread, it, state),
@@ -19,8 +21,8 @@ pub fn change_numbers(control: &Control, thread: usize, it: Instruction, state: 
         Class::ShiftXb => shift_b(control, thread, it, state),
         Class::Scalar(scalar) => {
             let (a, b) = operands(thread, it, state);
-            let result = register_at(thread, it.get(Name::Result) as usize);
-            state.registers[result] = compute(scalar, it.get(Name::Mode), a, b);
+            let result = register_at(thread, it.get(RESULT) as usize);
+            state.registers[result] = compute(scalar, it.mode(), a, b);
         }
         Class::Legacy | Class::SetRwc | Class::IncRwc | Class::Nothing => {}
     }
@@ -48,10 +50,14 @@ fn multiply(control: &Control, thread: usize, it: Instruction, state: &mut State
 }
 
 fn zero(control: &Control, it: Instruction, state: &mut State) {
-    let high = it.on(Name::WriteMode) && it.get(Name::Value) != 0;
-    for (file, bank) in it.filled(control) {
+    let high = it.on(WRITE_MODE) && it.get(VALUE) != 0;
+    for file in SRC {
         let number = if file == A && high { HIGH_FILL } else { 0 };
-        state.src_mut(file)[src_at(bank, 0)..][..BANK_NUMBERS].fill(number);
+        for bank in 0..BANKS {
+            if it.fills(control, file, bank) {
+                state.src_mut(file)[src_at(bank, 0)..][..BANK_NUMBERS].fill(number);
+            }
+        }
     }
 }
 
@@ -60,7 +66,7 @@ fn shift_a(control: &Control, it: Instruction, state: &mut State) {
     // A copy, as source and target overlap where the last row is 0.
     let mut old = [0; BLOCK_NUMBERS];
     old.copy_from_slice(&bank[src_at(0, control.last.into())..][..BLOCK_NUMBERS]);
-    let right = it.get(Name::Mode) == RIGHT;
+    let right = it.mode() == RIGHT;
     for (n, number) in bank[..BLOCK_NUMBERS].iter_mut().enumerate() {
         *number = match (right, n % COLUMNS) {
             (true, 0) => 0,
@@ -75,7 +81,7 @@ fn shift_b(control: &Control, thread: usize, it: Instruction, state: &mut State)
     let at = src_at(control.matrix_bank(B), it.shifted_row(control, thread));
     let numbers = &mut state.srcb[at..][..COLUMNS];
     numbers.rotate_left(1);
-    if it.on(Name::ZeroFill) {
+    if it.on(ZERO_FILL) {
         numbers[COLUMNS - 1] = 0;
     }
 }
@@ -83,13 +89,9 @@ fn shift_b(control: &Control, thread: usize, it: Instruction, state: &mut State)
 /// A scalar instruction's A, and its B: a register or a constant.
 pub fn operands(thread: usize, it: Instruction, state: &State) -> (u32, u32) {
     let register = |number: u32| state.registers[register_at(thread, number as usize)];
-    let b = it.get(Name::RegisterB);
-    let b = if it.on(Name::Constant) {
-        b
-    } else {
-        register(b)
-    };
-    (register(it.get(Name::RegisterA)), b)
+    let b = it.get(REGISTER_B);
+    let b = if it.on(CONSTANT) { b } else { register(b) };
+    (register(it.get(REGISTER_A)), b)
 }
 
 fn compute(scalar: Scalar, mode: u32, a: u32, b: u32) -> u32 {

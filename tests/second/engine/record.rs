@@ -1,7 +1,8 @@
 //! The control record.
 
-use super::layout;
-use super::{Width, A, B, BANKS, BLOCK, DST_COUNTS, PHASES, SLOTS, SRC_COUNTS, SRC_ROWS, THREADS};
+use super::{
+    Width, A, B, BANKS, BLOCK, DST_COUNTS, FORMATS, PHASES, SLOTS, SRC_COUNTS, SRC_ROWS, THREADS,
+};
 
 /// The SrcA formats under which something is modelled.
 pub const BF16: u8 = 2;
@@ -14,7 +15,7 @@ pub const FP16A: u8 = 4;
 /// All of them, from bit 0 on without a gap; every other bit is 0.
 pub const FLAGS: u8 = FP32 | INT8 | FP16A;
 /// Those that, with the format, decide what is modelled.
-const KIND_FLAGS: u8 = FP32 | INT8 | FP16A;
+pub const KIND_FLAGS: u8 = FP32 | INT8 | FP16A;
 
 /// A slot's flags, those of SrcA and SrcB by file.
 pub const SRC_CLEAR: [u8; 2] = [1, 4];
@@ -51,6 +52,15 @@ pub struct Slot {
     pub flags: u8,
 }
 
+impl Slot {
+    fn in_range(&self) -> bool {
+        self.src_step[A] < SRC_COUNTS
+            && self.src_step[B] < SRC_COUNTS
+            && self.dst_step < DST_COUNTS
+            && self.fidelity_step < PHASES
+    }
+}
+
 #[derive(Debug, Clone, Copy, Default, PartialEq, Eq)]
 pub struct Thread {
     pub dst: u16,
@@ -71,11 +81,21 @@ impl Thread {
         number as usize + SLOTS / 2 * self.extra as usize
     }
 
-    fn in_range(&self) -> bool {
+    fn counters_in_range(&self) -> bool {
         self.dst < DST_COUNTS
             && self.dst_cr < DST_COUNTS
-            && self.src.iter().chain(&self.src_cr).all(|&n| n < SRC_COUNTS)
+            && self.src[A] < SRC_COUNTS
+            && self.src[B] < SRC_COUNTS
+            && self.src_cr[A] < SRC_COUNTS
+            && self.src_cr[B] < SRC_COUNTS
             && self.phase < PHASES
+    }
+
+    fn settings_in_range(&self) -> bool {
+        self.offset < DST_COUNTS
+            && self.fidelity_base < PHASES
+            && self.extra <= 1
+            && self.slots.iter().all(Slot::in_range)
     }
 }
 
@@ -114,11 +134,22 @@ impl Control {
         }
     }
 
+    /// Are the settings and slots as a settings field allows them?
+    pub fn settings_in_range(&self) -> bool {
+        self.format < FORMATS
+            && self.flags <= FLAGS
+            && self.base < DST_COUNTS
+            && self.threads.iter().all(Thread::settings_in_range)
+    }
+
     pub fn in_range(&self) -> bool {
-        let mut pointers = self.matrix.iter().chain(&self.unpackers);
-        layout::settings_in_range(self)
-            && self.threads.iter().all(Thread::in_range)
-            && pointers.all(|&bank| usize::from(bank) < BANKS)
+        let bank = |pointer: u8| usize::from(pointer) < BANKS;
+        self.settings_in_range()
+            && self.threads.iter().all(Thread::counters_in_range)
+            && bank(self.matrix[A])
+            && bank(self.matrix[B])
+            && bank(self.unpackers[A])
+            && bank(self.unpackers[B])
             && usize::from(self.last) < SRC_ROWS
             && usize::from(self.last) % BLOCK == 0
     }
@@ -128,19 +159,13 @@ impl Control {
         (self.format, self.flags & KIND_FLAGS)
     }
 
-    /// The width of Dst: 16 bits for BF16 with all three flags off.
     pub fn width(&self) -> Width {
-        if self.kind() == (BF16, 0) {
-            Width::Bits16
-        } else {
-            Width::Bits32
-        }
+        Width::of(self.format, self.flags)
     }
 
     /// The settings under which a multiply is modelled.
     pub fn modelled(&self) -> bool {
-        let kinds = [(BF16, FP32), (TF32, FP32), (BF16, 0)];
-        kinds.contains(&self.kind())
+        matches!(self.kind(), (BF16 | TF32, FP32) | (BF16, 0))
     }
 
     pub fn matrix_bank(&self, file: usize) -> usize {

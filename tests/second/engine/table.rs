@@ -5,8 +5,9 @@ use std::ops::Range;
 use super::{named, A, B};
 
 named! {
-    /// What the table calls the bits of a word. The files of ZEROSRC, the counters of SETRWC and
-    /// INCRWC and the registers of a scalar instruction each have an A and a B.
+    /// What the table calls the bits of a word, for those who make words or tell what is in them.
+    /// The files of ZEROSRC, the counters of SETRWC and INCRWC and the registers of a scalar
+    /// instruction each have an A and a B.
     pub enum Name {
         Clear = "clear",
         Mode = "mode",
@@ -31,10 +32,6 @@ named! {
         RegisterA = "A",
     }
 }
-
-/// By file.
-pub const COUNTERS: [Name; 2] = [Name::CounterA, Name::CounterB];
-pub const ZEROED: [Name; 2] = [Name::FileA, Name::FileB];
 
 /// Named bits; a value outside of the defined ones is an undefined mode.
 #[derive(Debug, Clone, Copy)]
@@ -103,15 +100,19 @@ pub enum Class {
 }
 
 impl Class {
-    /// The files whose matrix bank an instruction needs.
-    pub fn needs(self) -> &'static [usize] {
+    /// Does an instruction need the matrix bank of a file?
+    pub fn needs(self, file: usize) -> bool {
         match self {
-            Class::Multiply { .. } | Class::Legacy => &[A, B],
-            Class::ShiftXa => &[A],
-            Class::ShiftXb => &[B],
-            Class::SetRwc | Class::IncRwc | Class::ZeroSrc => &[],
-            Class::Nothing | Class::Scalar(_) => &[],
+            Class::Multiply { .. } | Class::Legacy => true,
+            Class::ShiftXa => file == A,
+            Class::ShiftXb => file == B,
+            Class::SetRwc | Class::IncRwc | Class::ZeroSrc => false,
+            Class::Nothing | Class::Scalar(_) => false,
         }
+    }
+
+    pub fn needs_a_bank(self) -> bool {
+        self.needs(A) || self.needs(B)
     }
 
     /// The Dst rows that a multiply takes at a sum of dst field, offset, counter and base.
@@ -140,6 +141,9 @@ pub struct Entry {
     pub bits: &'static [Bits],
     /// All bits that the table names, the opcode's among them.
     pub named: u32,
+    /// Where its mode and its slot stand, as these differ from row to row.
+    pub mode: Option<Bits>,
+    pub slot: Option<Bits>,
 }
 
 const EIGHT: Class = Class::Multiply {
@@ -154,12 +158,28 @@ const BITWISE: Class = Class::Scalar(Scalar::Bitwise);
 const SHIFT: Class = Class::Scalar(Scalar::Shift);
 const COMPARE: Class = Class::Scalar(Scalar::Compare);
 
-const CLEAR: Bits = bits(Name::Clear, 23, 22);
+pub const CLEAR: Bits = bits(Name::Clear, 23, 22);
 const SLOT: Bits = bits(Name::Slot, 15, 14);
-const DST: Bits = bits(Name::Dst, 13, 0);
-const COUNTER_D: Bits = bits(Name::CounterD, 17, 14);
+pub const DST: Bits = bits(Name::Dst, 13, 0);
+pub const COUNTER_D: Bits = bits(Name::CounterD, 17, 14);
 const COUNTER_B: Bits = bits(Name::CounterB, 13, 10);
 const COUNTER_A: Bits = bits(Name::CounterA, 9, 6);
+pub const WHICH: Bits = bits(Name::Which, 3, 0);
+pub const VALUE: Bits = bits(Name::Value, 23, 4);
+pub const WRITE_MODE: Bits = bits(Name::WriteMode, 3, 3);
+pub const BOTH_BANKS: Bits = bits(Name::BothBanks, 2, 2);
+const FILE_B: Bits = bits(Name::FileB, 1, 1);
+const FILE_A: Bits = bits(Name::FileA, 0, 0);
+pub const ZERO_FILL: Bits = bits(Name::ZeroFill, 10, 10);
+pub const ROW: Bits = bits(Name::Row, 9, 0);
+pub const CONSTANT: Bits = bits(Name::Constant, 23, 23);
+pub const RESULT: Bits = bits(Name::Result, 17, 12);
+pub const REGISTER_B: Bits = bits(Name::RegisterB, 11, 6);
+pub const REGISTER_A: Bits = bits(Name::RegisterA, 5, 0);
+
+/// By file.
+pub const COUNTERS: [Bits; 2] = [COUNTER_A, COUNTER_B];
+pub const ZEROED: [Bits; 2] = [FILE_A, FILE_B];
 
 const MULTIPLY: &[Bits] = &[CLEAR, mode(21, 19, (0, 0)), SLOT, DST];
 const POOL: &[Bits] = &[CLEAR, mode(21, 19, (0, 1)), bits(Name::Slot, 16, 15), DST];
@@ -170,27 +190,16 @@ const SET: &[Bits] = &[
     COUNTER_D,
     COUNTER_B,
     COUNTER_A,
-    bits(Name::Which, 3, 0),
+    WHICH,
 ];
 const INC: &[Bits] = &[mode(23, 18, (0, 0)), COUNTER_D, COUNTER_B, COUNTER_A];
-const ZERO: &[Bits] = &[
-    bits(Name::Value, 23, 4),
-    bits(Name::WriteMode, 3, 3),
-    bits(Name::BothBanks, 2, 2),
-    bits(Name::FileB, 1, 1),
-    bits(Name::FileA, 0, 0),
-];
-const SHIFT_B: &[Bits] = &[SLOT, bits(Name::ZeroFill, 10, 10), bits(Name::Row, 9, 0)];
+const ZERO: &[Bits] = &[VALUE, WRITE_MODE, BOTH_BANKS, FILE_B, FILE_A];
+const SHIFT_B: &[Bits] = &[SLOT, ZERO_FILL, ROW];
 
 /// With modes from 0 to the last one.
 const fn scalar(last: u32) -> [Bits; 5] {
-    [
-        bits(Name::Constant, 23, 23),
-        mode(20, 18, (0, last)),
-        bits(Name::Result, 17, 12),
-        bits(Name::RegisterB, 11, 6),
-        bits(Name::RegisterA, 5, 0),
-    ]
+    let mode = mode(20, 18, (0, last));
+    [CONSTANT, mode, RESULT, REGISTER_B, REGISTER_A]
 }
 
 const OPCODE: u32 = 24;
@@ -204,6 +213,18 @@ const fn named(bits: &[Bits]) -> u32 {
     named
 }
 
+/// Those of a name, found when the table is compiled.
+const fn only(bits: &[Bits], name: Name) -> Option<Bits> {
+    let mut n = 0;
+    while n < bits.len() {
+        if bits[n].name as u32 == name as u32 {
+            return Some(bits[n]);
+        }
+        n += 1;
+    }
+    None
+}
+
 /// Each row as an entry of its name, and all of them as the table.
 macro_rules! table {
     ($($name:ident $opcode:literal, $class:expr, $bits:expr;)*) => {
@@ -213,6 +234,8 @@ macro_rules! table {
             class: $class,
             bits: $bits,
             named: named($bits),
+            mode: only($bits, Name::Mode),
+            slot: only($bits, Name::Slot),
         };)*
 
         pub static TABLE: &[&Entry] = &[$(&$name),*];
@@ -242,11 +265,20 @@ table! {
     CMPDMAREG 0x5D, COMPARE, &scalar(2);
 }
 
+/// The entries by opcode.
+static BY_OPCODE: [Option<&Entry>; 256] = {
+    let (mut entries, mut n) = ([None; 256], 0);
+    while n < TABLE.len() {
+        entries[TABLE[n].opcode as usize] = Some(TABLE[n]);
+        n += 1;
+    }
+    entries
+};
+
 impl Entry {
     /// The entry of a word's opcode.
     pub fn of(word: u32) -> Option<&'static Entry> {
-        let mut entries = TABLE.iter().copied();
-        entries.find(|entry| u32::from(entry.opcode) == word >> OPCODE)
+        BY_OPCODE[(word >> OPCODE) as usize]
     }
 
     pub fn find(&self, name: Name) -> Option<&'static Bits> {

@@ -2,7 +2,7 @@
 
 use std::cmp::Ordering;
 
-use super::{DST_NUMBERS, DST_ROWS};
+use super::{BF16, DST_NUMBERS, DST_ROWS, KIND_FLAGS};
 
 /// How wide a Dst number is. The settings decide it, and so it is one for a whole job.
 #[derive(Debug, Clone, Copy, PartialEq, Eq)]
@@ -18,6 +18,15 @@ pub const MOST_DST_ROWS: usize = Width::Bits16.rows();
 
 impl Width {
     pub const ALL: [Width; 2] = [Width::Bits32, Width::Bits16];
+
+    /// The width under a format and flags: 16 bits for BF16 with all three flags off.
+    pub fn of(format: u8, flags: u8) -> Width {
+        if format == BF16 && flags & KIND_FLAGS == 0 {
+            Width::Bits16
+        } else {
+            Width::Bits32
+        }
+    }
 
     pub const fn bits(self) -> usize {
         match self {

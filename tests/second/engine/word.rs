@@ -2,7 +2,9 @@
 
 use std::ops::Range;
 
-use super::{Bits, Control, Entry, Name, Refusal, A, B, SRC, SRC_ROWS, ZEROED};
+use super::{
+    Bits, Class, Control, Entry, Refusal, B, BOTH_BANKS, CLEAR, DST, ROW, SRC_ROWS, ZEROED,
+};
 
 /// A word that broke none of the rules 2 to 4 (or is only looked at).
 #[derive(Debug, Clone, Copy)]
@@ -13,58 +15,69 @@ pub struct Instruction {
 
 impl Instruction {
     /// A word of the table, with whatever fields.
+    #[inline]
     pub fn of(word: u32) -> Option<Instruction> {
         Entry::of(word).map(|entry| Instruction { entry, word })
     }
 
-    pub fn find(&self, name: Name) -> Option<u32> {
-        self.entry.find(name).map(|bits| bits.get(self.word))
+    /// Bits that stand in its row.
+    pub fn get(&self, bits: Bits) -> u32 {
+        bits.get(self.word)
     }
 
-    pub fn get(&self, name: Name) -> u32 {
-        self.find(name).expect("bits of this name")
+    pub fn on(&self, bits: Bits) -> bool {
+        self.get(bits) == 1
     }
 
-    pub fn on(&self, name: Name) -> bool {
-        self.get(name) == 1
+    /// The mode, 0 where its row has none.
+    pub fn mode(&self) -> u32 {
+        self.entry.mode.map_or(0, |mode| self.get(mode))
     }
 
-    /// The files given back: every instruction with clear bits does clear, whatever its class.
-    pub fn cleared(&self) -> impl Iterator<Item = usize> {
-        let clear = self.find(Name::Clear).unwrap_or(0);
-        SRC.into_iter().filter(move |file| (clear >> file) & 1 == 1)
+    /// The two-bit number of its slot.
+    pub fn slot(&self) -> Option<u32> {
+        self.entry.slot.map(|slot| self.get(slot))
+    }
+
+    /// Does it give a file's bank back?
+    pub fn clears(&self, file: usize) -> bool {
+        match self.entry.class {
+            Class::Multiply { .. } | Class::Legacy | Class::SetRwc => {
+                (self.get(CLEAR) >> file) & 1 == 1
+            }
+            Class::IncRwc | Class::ZeroSrc | Class::ShiftXa => false,
+            Class::ShiftXb | Class::Nothing | Class::Scalar(_) => false,
+        }
     }
 
     /// The Dst rows that a multiply reads and writes.
+    #[inline]
     pub fn dst_rows(&self, control: &Control, thread: usize) -> Option<Range<usize>> {
-        let dst = self.find(Name::Dst)?;
-        self.entry.class.dst_rows(control.dst_sum(thread, dst))
+        let sum = control.dst_sum(thread, self.get(DST));
+        self.entry.class.dst_rows(sum)
     }
 
-    /// The files and banks that ZEROSRC fills.
-    pub fn filled<'a>(&'a self, control: &'a Control) -> impl Iterator<Item = (usize, usize)> + 'a {
-        let banks = [(A, 0), (A, 1), (B, 0), (B, 1)];
-        banks.into_iter().filter(|&(file, bank)| {
-            let meant = self.on(Name::BothBanks) || bank == control.unpackers_bank(file);
-            self.on(ZEROED[file]) && meant
-        })
+    /// Does ZEROSRC fill this bank of a file?
+    pub fn fills(&self, control: &Control, file: usize, bank: usize) -> bool {
+        let meant = self.on(BOTH_BANKS) || bank == control.unpackers_bank(file);
+        self.on(ZEROED[file]) && meant
     }
 
     /// The row of SrcB that SHIFTXB moves.
     pub fn shifted_row(&self, control: &Control, thread: usize) -> usize {
-        (self.get(Name::Row) as usize + control.threads[thread].src[B] as usize) % SRC_ROWS
+        (self.get(ROW) as usize + control.threads[thread].src[B] as usize) % SRC_ROWS
     }
 }
 
 /// A word's fields, or the lowest of the rules 2 to 4 that it breaks.
+#[inline]
 pub fn decode(word: u32) -> Result<Instruction, Refusal> {
     let it = Instruction::of(word).ok_or(Refusal::UnknownOpcode)?;
     if word & !it.entry.named != 0 {
         return Err(Refusal::UnnamedBit);
     }
-    let defined = |bits: &Bits| bits.defines(bits.get(word));
-    if !it.entry.bits.iter().all(defined) {
-        return Err(Refusal::UndefinedMode);
+    match it.entry.mode {
+        Some(mode) if !mode.defines(mode.get(word)) => Err(Refusal::UndefinedMode),
+        _ => Ok(it),
     }
-    Ok(it)
 }

@@ -4,21 +4,16 @@ use super::numbers::{numbers, register_value};
 use super::rng::Rng;
 use super::words::compose;
 use crate::engine::{
-    follow, judge, write, Control, Field, Marks, Name, Span, Width, A, B, BLOCK, COLUMNS, D,
-    SETRWC, SHIFTXA, SHIFTXB, SRC_ROWS, THREADS, ZEROED, ZEROSRC,
+    all_set, follow, judge, row_bytes, write, Control, Field, Marks, Name, Width, A, B, BLOCK,
+    COLUMNS, D, SETRWC, SHIFTXA, SHIFTXB, SRC_ROWS, THREADS, ZEROED, ZEROSRC,
 };
 
-/// Numbers that may be loaded, as a field.
-pub fn load_rows(rng: &mut Rng, width: Width, file: usize, first: usize, count: usize) -> Field {
-    let numbers = numbers(rng, width, file, count * COLUMNS);
-    Field::LoadRows {
-        file,
-        first,
-        numbers,
-    }
+/// Rows that may be loaded.
+pub fn rows(rng: &mut Rng, width: Width, file: usize, count: usize) -> Vec<u8> {
+    row_bytes(&numbers(rng, width, file, count * COLUMNS))
 }
 
-pub fn load_register(rng: &mut Rng, thread: usize, register: usize) -> Field {
+pub fn load_register(rng: &mut Rng, thread: usize, register: usize) -> Field<'static> {
     let value = register_value(rng);
     Field::LoadRegister {
         thread,
@@ -103,7 +98,7 @@ impl Builder<'_> {
     /// The Dst rows that are set.
     pub fn set_rows(&self) -> Vec<usize> {
         let rows = 0..self.width().rows();
-        rows.filter(|&row| self.marks.has_dst(row)).collect()
+        rows.filter(|&row| self.marks.dst[row]).collect()
     }
 
     pub fn thread(&mut self) -> usize {
@@ -141,23 +136,21 @@ impl Builder<'_> {
     }
 
     pub fn load_src(&mut self, file: usize, first: usize, count: usize) -> Done {
-        let field = load_rows(self.rng, self.control.width(), file, first, count);
+        let rows = &rows(self.rng, self.control.width(), file, count);
         self.give_back(file)?;
-        self.push(&field)
+        self.push(&Field::LoadRows { file, first, rows })
     }
 
-    pub fn load_src_numbers(&mut self, file: usize, first: usize, numbers: Vec<u32>) -> Done {
+    pub fn load_src_numbers(&mut self, file: usize, first: usize, numbers: &[u32]) -> Done {
         self.give_back(file)?;
-        self.push(&Field::LoadRows {
-            file,
-            first,
-            numbers,
-        })
+        let rows = &row_bytes(numbers);
+        self.push(&Field::LoadRows { file, first, rows })
     }
 
     pub fn load_dst(&mut self, first: usize, count: usize) -> Done {
-        let field = load_rows(self.rng, self.control.width(), D, first, count);
-        self.push(&field)
+        let rows = &rows(self.rng, self.control.width(), D, count);
+        let file = D;
+        self.push(&Field::LoadRows { file, first, rows })
     }
 
     pub fn load_register(&mut self, thread: usize, register: usize) -> Done {
@@ -177,16 +170,13 @@ impl Builder<'_> {
 
     /// Makes the matrix bank owned, with these rows set.
     pub fn ready(&mut self, file: usize, first: usize, count: usize) -> Done {
-        let set = self.marks.has(&Span::Src {
-            file,
-            bank: self.control.matrix_bank(file),
-            rows: first..first + count,
-        });
+        let marks = &self.marks.src[file][self.control.matrix_bank(file)];
+        let set = all_set(&marks[first..][..count]);
         if set && self.control.matrix_has(file) && !self.rng.one_in(8) {
             return Some(());
         }
         let thread = self.thread();
-        let zero = ZEROSRC.put(compose(self.rng, &ZEROSRC), ZEROED[file], 1);
+        let zero = ZEROED[file].put(compose(self.rng, &ZEROSRC), 1);
         match self.rng.below(16) {
             0 => {
                 self.own(file)?;

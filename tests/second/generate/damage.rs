@@ -1,6 +1,6 @@
 //! How jobs are spoiled.
 
-use super::builder::{load_register, load_rows};
+use super::builder::{load_register, rows};
 use super::edges::to_edge;
 use super::numbers::dst_number;
 use super::raw::{first_output, is, raw_width};
@@ -140,7 +140,8 @@ impl Damage<'_> {
             self.insert(self.middle, &Field::HandOver { file });
         }
         if self.rng.one_in(2) {
-            let load = load_rows(self.rng, self.width, file, 5, 1);
+            let (first, rows) = (5, &rows(self.rng, self.width, file, 1));
+            let load = Field::LoadRows { file, first, rows };
             self.insert(self.middle + 2, &load);
         }
     }
@@ -170,7 +171,7 @@ impl Damage<'_> {
             let entry = pick_scalar(self.rng);
             self.issue_of(self.middle, entry);
         } else {
-            let reads = |e: &Entry| !e.class.needs().is_empty() && e.class != Class::Legacy;
+            let reads = |e: &Entry| e.class.needs_a_bank() && e.class != Class::Legacy;
             let entry = pick_where(self.rng, reads);
             self.issue_of(1, entry);
             self.insert(1, &Field::HandOver { file: A });
@@ -248,8 +249,8 @@ impl Damage<'_> {
                 let count = self.rng.pick(&[0, FIELD_ROWS + 1]);
                 let file = self.rng.pick(&[self.file, D]);
                 self.fields.truncate(1);
-                let load = load_rows(self.rng, self.width, file, 0, count);
-                self.push(&load);
+                let (first, rows) = (0, &rows(self.rng, self.width, file, count));
+                self.push(&Field::LoadRows { file, first, rows });
                 self.push(&Field::OutputRegister {
                     thread: 0,
                     register: 0,
@@ -315,8 +316,8 @@ impl Damage<'_> {
         let count = self.rng.pick(&[FIELD_ROWS, FIELD_ROWS, 3]);
         let first = rows_of(file, self.width) - count;
         self.fields.truncate(1);
-        let load = load_rows(self.rng, self.width, file, first, count);
-        self.push(&load);
+        let rows = &rows(self.rng, self.width, file, count);
+        self.push(&Field::LoadRows { file, first, rows });
         let (thread, register) = (THREADS - 1, REGISTERS - 1);
         let load = load_register(self.rng, thread, register);
         self.push(&load);

@@ -17,10 +17,11 @@ pub mod records;
 pub mod rng;
 pub mod words;
 
-use crate::engine::{shape, width_of, write, Field, JOB_BYTES};
+use crate::engine::{row_bytes, shape, width_of, write, Field, JOB_BYTES};
+use builder::load_register;
 use damage::{damage, damage_bytes};
 use grow::grow;
-use numbers::{numbers, register_value};
+use numbers::numbers;
 use passing::build;
 use rng::Rng;
 
@@ -52,15 +53,17 @@ pub fn reload(rng: &mut Rng, job: &[u8]) -> Vec<u8> {
     let mut bytes = job.to_vec();
     let fields = shape(job).0;
     let width = width_of(&fields);
-    for (place, mut field) in fields {
-        match &mut field {
-            Field::LoadRows {
-                file, numbers: old, ..
-            } => *old = numbers(rng, width, *file, old.len()),
-            Field::LoadRegister { value, .. } => *value = register_value(rng),
+    for (place, field) in fields {
+        let new = match field {
+            Field::LoadRows { file, first, rows } => {
+                let rows = &row_bytes(&numbers(rng, width, file, rows.len() / 4));
+                write(&Field::LoadRows { file, first, rows })
+            }
+            Field::LoadRegister {
+                thread, register, ..
+            } => write(&load_register(rng, thread, register)),
             _ => continue,
-        }
-        let new = write(&field);
+        };
         bytes[place..place + new.len()].copy_from_slice(&new);
     }
     bytes

@@ -1,13 +1,14 @@
 //! Jobs that pass, but for what a wild one dares.
 
-use super::builder::{load_rows, Builder, Done};
+use super::builder::{rows, Builder, Done};
 use super::halfway::Halfway;
 use super::records::settings;
 use super::rng::Rng;
 use super::words::{compose, pick_entry, pick_multiply, pick_needy, pick_scalar, pick_where};
 use crate::engine::{
-    Class, Entry, Field, Instruction, Name, Span, Width, A, B, BLOCK, D, DST_COUNTS, DST_ROWS,
-    FIELD_ROWS, INCRWC, JOB_BYTES, REGISTERS, SETRWC, SHIFTXA, SHIFTXB, SRC_ROWS, THREADS,
+    all_set, row_bytes, settings_bytes, Class, Entry, Field, Instruction, Name, Width, A, B, BLOCK,
+    CONSTANT, D, DST_COUNTS, DST_ROWS, FIELD_ROWS, INCRWC, JOB_BYTES, REGISTERS, REGISTER_A,
+    REGISTER_B, RESULT, SETRWC, SHIFTXA, SHIFTXB, SRC_ROWS, THREADS,
 };
 
 /// Room kept for the outputs at a job's end.
@@ -16,8 +17,8 @@ const RESERVE: usize = 64;
 impl Builder<'_> {
     /// Are there halves, and are the rows on both sides of their border set?
     fn border_is_set(&self) -> bool {
-        let border = Span::Dst(DST_ROWS - 1..DST_ROWS + 1);
-        self.width() == Width::Bits16 && self.marks.has(&border)
+        let border = &self.marks.dst[DST_ROWS - 1..DST_ROWS + 1];
+        self.width() == Width::Bits16 && all_set(border)
     }
 
     /// The first of so many Dst rows: often at an end, of 16-bit rows often across the halves.
@@ -56,8 +57,8 @@ impl Builder<'_> {
         let word = match self.rng.below(10) {
             0 => return self.dare(&Field::HandOver { file }),
             1 => {
-                let load = load_rows(self.rng, self.control.width(), file, 16, 1);
-                return self.dare(&load);
+                let (first, rows) = (16, &rows(self.rng, self.width(), file, 1));
+                return self.dare(&Field::LoadRows { file, first, rows });
             }
             2 => SETRWC.word(&[(Name::Clear, self.rng.below(4))]),
             3..=6 => self.unprepared_word(thread),
@@ -103,7 +104,7 @@ impl Builder<'_> {
         }
         let sum = self.aim();
         let rows = entry.class.dst_rows(sum)?;
-        let (first, unset) = (rows.start, !self.marks.has(&Span::Dst(rows)));
+        let (first, unset) = (rows.start, !all_set(&self.marks.dst[rows]));
         if unset || self.rng.one_in(6) {
             if self.rng.one_in(3) {
                 self.push(&Field::ZeroRows { first, count })?;
@@ -146,15 +147,15 @@ impl Builder<'_> {
         let count = entry.class.dst_rows(0)?.len();
         let phase = self.control.phase(thread);
         let rows = Halfway::new(self.rng, self.control.width(), phase, count);
-        self.load_src_numbers(A, self.control.a_row(thread), rows.a)?;
+        self.load_src_numbers(A, self.control.a_row(thread), &rows.a)?;
         self.pass_on(A)?;
-        self.load_src_numbers(B, self.control.b_row(thread), rows.b)?;
+        self.load_src_numbers(B, self.control.b_row(thread), &rows.b)?;
         self.pass_on(B)?;
         let sum = self.aim();
         self.push(&Field::LoadRows {
             file: D,
             first: entry.class.dst_rows(sum)?.start,
-            numbers: rows.old,
+            rows: &row_bytes(&rows.old),
         })?;
         self.multiply_into(thread, entry, sum)
     }
@@ -229,15 +230,14 @@ impl Builder<'_> {
             }
         }
         let it = Instruction { entry, word };
-        for name in [Name::RegisterA, Name::RegisterB] {
-            let register = it.get(name) as usize;
-            let needed = name == Name::RegisterA || !it.on(Name::Constant);
-            if needed && !self.marks.has_register(thread, register) {
+        for (bits, needed) in [(REGISTER_A, true), (REGISTER_B, !it.on(CONSTANT))] {
+            let register = it.get(bits) as usize;
+            if needed && !self.marks.registers[thread][register] {
                 self.load_register(thread, register)?;
             }
         }
         self.issue(thread, word)?;
-        let result = it.get(Name::Result) as usize;
+        let result = it.get(RESULT) as usize;
         self.written_registers.push((thread, result));
         Some(())
     }
@@ -319,10 +319,10 @@ impl Builder<'_> {
         let mut first = row;
         if self.border_is_set() && self.rng.one_in(3) {
             let before = (DST_ROWS - FIELD_ROWS..DST_ROWS).rev();
-            let before = before.take_while(|&row| self.marks.has_dst(row)).count();
+            let before = before.take_while(|&row| self.marks.dst[row]).count();
             first = DST_ROWS - self.rng.within(1, before as u32) as usize;
         }
-        let run = (first..self.width().rows()).take_while(|&row| self.marks.has_dst(row));
+        let run = (first..self.width().rows()).take_while(|&row| self.marks.dst[row]);
         let most = run.count().min(FIELD_ROWS);
         let count = self.rng.within(1, most as u32) as usize;
         self.push(&Field::OutputRows { first, count })
@@ -342,7 +342,7 @@ impl Builder<'_> {
         let rows = self.set_rows();
         let all = (0..THREADS).flat_map(|thread| (0..REGISTERS).map(move |n| (thread, n)));
         let all: Vec<(usize, usize)> = all.collect();
-        let set = |&(thread, register): &(usize, usize)| self.marks.has_register(thread, register);
+        let set = |&(thread, register): &(usize, usize)| self.marks.registers[thread][register];
         let mut registers: Vec<(usize, usize)> = all.iter().copied().filter(set).collect();
         if rows.is_empty() && registers.is_empty() {
             let (thread, register) = self.rng.pick(&all);
@@ -366,10 +366,10 @@ impl Builder<'_> {
 /// The fields of a job as bytes.
 pub fn build(rng: &mut Rng, wild: bool) -> Vec<Vec<u8>> {
     let limit = rng.pick(&[600, 2000, 4000, 6000, JOB_BYTES]) - RESERVE;
-    let settings = Field::Settings(Box::new(settings(rng)));
+    let settings = settings_bytes(&settings(rng));
     let focus = rng.index(THREADS);
     let mut builder = Builder::new(rng, limit, focus, wild);
-    let _ = builder.push(&settings);
+    let _ = builder.push(&Field::Settings(&settings));
     // Without a multiply that passes, one that is refused shows more.
     builder.wild |= !builder.control.modelled() && builder.rng.one_in(2);
     for _ in 0..builder.rng.below(30) {

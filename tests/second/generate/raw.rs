@@ -9,7 +9,8 @@ pub fn is(field: &[u8], tag: Tag) -> bool {
 /// Dst's width under the settings that raw fields begin with.
 pub fn raw_width(fields: &[Vec<u8>]) -> Width {
     let settings = fields.first().filter(|field| is(field, Tag::Settings));
-    let settings = settings.and_then(|field| read(Width::Bits32, field[0], &field[HEADER..]));
+    let settings = settings.and_then(|field| read(field[0], &field[HEADER..]));
+    let settings = settings.filter(|field| field.fits(Width::Bits32));
     width_of(&settings.map_or(Vec::new(), |field| vec![(0, field)]))
 }
 

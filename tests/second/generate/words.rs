@@ -27,7 +27,7 @@ pub fn pick_scalar(rng: &mut Rng) -> &'static Entry {
 
 /// An instruction that needs a bank.
 pub fn pick_needy(rng: &mut Rng) -> &'static Entry {
-    pick_where(rng, |entry| !entry.class.needs().is_empty())
+    pick_where(rng, |entry| entry.class.needs_a_bank())
 }
 
 /// A word of an entry with no unnamed bit and a defined mode.

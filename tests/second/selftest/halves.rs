@@ -4,12 +4,12 @@ use super::steps::{first_row, product_of, record_of};
 use super::{prints, same, Case, Verdict};
 use crate::bf16;
 use crate::engine::{
-    datum, run, Answer, Field, Name, Refusal, State, Width, BF16, COLUMNS, D, DOTPV, DST_ROWS,
-    FORMATS, FP16A, FP32, GAPOOL, INT8, TF32,
+    datum, run, Answer, Name, Refusal, State, Width, BF16, COLUMNS, D, DOTPV, DST_ROWS, FORMATS,
+    FP16A, FP32, GAPOOL, INT8, TF32,
 };
 use crate::worked::{
     across, both_halves, bytes, ending, four_rows, in_halves, load, mvmul, mvmul_word, one, power,
-    powers, rounded_row, rounded_sum, rows_out, zero, ROUNDED,
+    powers, rounded_row, rounded_sum, rows_out, settings, zero, Written, ROUNDED,
 };
 
 pub const CASES: &[Case] = &[
@@ -187,7 +187,7 @@ fn zeros(row: usize) -> String {
     format!("D {row}{}\n", " 0000".repeat(COLUMNS))
 }
 
-fn halves_print(fields: &[Field]) -> String {
+fn halves_print(fields: &[Written]) -> String {
     prints(&in_halves(fields))
 }
 
@@ -309,13 +309,13 @@ fn one_mode_has_halves() -> Verdict {
 fn mode_has_its_rows(format: u8, flags: u8) -> Verdict {
     let halves = format == BF16 && flags == 0;
     let modelled = halves || flags == FP32 && (format == BF16 || format == TF32);
-    let job = |fields: &[Field]| prints(&[&[Field::settings(format, flags)], fields].concat());
+    let job = |fields: &[Written]| prints(&[&[settings(format, flags)], fields].concat());
     let digits = if halves { 4 } else { 8 };
     let number = format!(" {}", "0".repeat(digits));
     let row = |row: usize| format!("D {row}{}\n", number.repeat(COLUMNS));
     let printed = job(&[zero(511, 1), rows_out(511, 1)]);
     same(printed, format!("finished 0\n{}", row(511)))?;
-    let of_halves = |fields: &[Field], place: usize, rows: String| {
+    let of_halves = |fields: &[Written], place: usize, rows: String| {
         let wanted = match halves {
             true => format!("finished 0\n{rows}"),
             false => format!("refused 1 at {place}\n"),

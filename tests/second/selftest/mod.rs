@@ -6,8 +6,8 @@ mod steps;
 
 use std::fmt::Debug;
 
-use crate::engine::{output, Field, State};
-use crate::worked::bytes;
+use crate::engine::{output, State};
+use crate::worked::{bytes, Written};
 
 type Verdict = Result<(), String>;
 type Case = (&'static str, fn() -> Verdict);
@@ -22,7 +22,7 @@ fn same<G: Debug + PartialEq<W>, W: Debug>(got: G, wanted: W) -> Verdict {
 }
 
 /// What a job prints over zeros.
-fn prints(fields: &[Field]) -> String {
+fn prints(fields: &[Written]) -> String {
     output(&bytes(fields), &mut State::zero())
 }
 

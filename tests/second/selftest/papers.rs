@@ -3,11 +3,12 @@
 use super::steps::{first_row, matrix_record, product, refusal, scalar, shifted_a, shifted_b};
 use super::{prints, same, Case, Verdict};
 use crate::engine::{
-    datum, output, parts, run, step, Control, Field, Name, Refusal, State, Tag, A, B, BF16,
+    datum, output, parts, run, step, write, Control, Field, Name, Refusal, State, Tag, A, B, BF16,
     FORMATS, FP32, JOB_BYTES, MVMUL, SETRWC, SHIFTXA, TF32, THREADS,
 };
 use crate::worked::{
-    bytes, column_0, hand_over, issue, mvmul, mvmul_word, one, power, register_out, row_job, wide,
+    bytes, column_0, hand_over, issue, mvmul, mvmul_word, one, power, register_out, row_job,
+    settings, wide, Written,
 };
 
 pub const CASES: &[Case] = &[
@@ -70,15 +71,15 @@ pub const CASES: &[Case] = &[
     }),
     // From here on beyond the paper's list.
     ("settings alone", || {
-        let job = [Field::settings(BF16, FP32)];
+        let job = [settings(BF16, FP32)];
         same(prints(&job), "refused 1 at 163\n")
     }),
     ("settings out of range", || {
-        let job = [Field::settings(FORMATS, FP32)];
+        let job = [settings(FORMATS, FP32)];
         same(prints(&job), "refused 1 at 0\n")
     }),
     ("an output before a load", || {
-        let job = [Field::settings(BF16, FP32), register_out(1), load_12()];
+        let job = [settings(BF16, FP32), register_out(1), load_12()];
         same(prints(&job), "refused 1 at 168\n")
     }),
     ("a cut header", || {
@@ -202,18 +203,18 @@ fn factors(m: u32) -> [[f32; 2]; 2] {
     [A, B].map(|file| parts(file, TF32, datum(0, 137, m)))
 }
 
-fn load_12() -> Field {
-    Field::LoadRegister {
+fn load_12() -> Written {
+    write(&Field::LoadRegister {
         thread: 0,
         register: 1,
         value: 12,
-    }
+    })
 }
 
 /// The paper's worked job, with an output register.
-fn worked(register: usize) -> [Field; 4] {
+fn worked(register: usize) -> [Written; 4] {
     [
-        Field::settings(BF16, FP32),
+        settings(BF16, FP32),
         load_12(),
         issue(0x5B88_3141),
         register_out(register),
@@ -221,7 +222,7 @@ fn worked(register: usize) -> [Field; 4] {
 }
 
 /// What a job with an MVMUL of these clear bits prints: 16 times 2 times 1, and zeros.
-fn multiply(clear: u32, more: &[Field]) -> String {
+fn multiply(clear: u32, more: &[Written]) -> String {
     let mvmul = issue(MVMUL.word(&[(Name::Clear, clear)]));
     let fields = [&[mvmul], more].concat();
     let a_rows = column_0(&[power(false, 1); 16]);
@@ -233,7 +234,7 @@ fn row_of_sums() -> String {
     format!("D 0 42000000{}\n", " 00000000".repeat(15))
 }
 
-fn clear_both() -> Field {
+fn clear_both() -> Written {
     issue(SETRWC.word(&[(Name::Clear, 3)]))
 }
 
