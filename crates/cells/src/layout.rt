@@ -1,6 +1,6 @@
 // The sizes of the lent files and of a job, each once, and where a row or a register stands in its file.
 ghost use mathlib.Core.Path.{_≡_};
-ghost use Rattle.cells.specs.Layout.{bankRow, register, rowStart, noSpan, bankSpan, oneRegister};
+ghost use Rattle.cells.specs.Layout.{bankRow, register, rowStart, noSpan, bankSpan};
 
 // Numbers to a row.
 pub const COLUMNS: usize = 16;
@@ -79,15 +79,5 @@ pub fn bank_span(bank: u8) -> Span
     Span {
         first: bank_row(bank, 0),
         count: BANK_ROWS,
-    }
-}
-
-// A register alone.
-pub fn one_register(thread: u8, r: u8) -> Span
-    ensures { λ s. ⌜ s ≡ oneRegister thread r ⌝ }
-{
-    Span {
-        first: register_at(thread, r),
-        count: 1,
     }
 }

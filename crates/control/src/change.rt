@@ -1,24 +1,21 @@
 // What becomes of the record: clear and hand over, the slot, SETRWC and INCRWC.
 use crate::Banks;
-use crate::Control;
 use crate::Counter6;
 use crate::Counter10;
 use crate::Dst;
 use crate::DstStep;
+use crate::Own;
 use crate::PhaseStep;
 use crate::Slot;
 use crate::Src;
 use crate::SrcStep;
-use crate::Thread;
-use crate::record::thread_at;
-use crate::record::with_thread;
 use crate::record::zero_dst;
 use crate::record::zero_src;
-use word::Clear;
 use word::Which;
 ghost use mathlib.Core.Path.{_≡_};
 ghost use mathlib.Core.Bool.{cond};
-ghost use Rattle.control.specs.Change.{otherBank, ownerSet, giveBack, clearBanks, handOver, stepSrc, stepDst, stepPhase, applySlot, setSrc, setDst, setCounters, addCounters};
+ghost use Rattle.control.specs.Change.{otherBank, ownerSet, giveBack, handOver, stepSrc, stepDst, stepPhase, applySlot, setSrc, setDst, setThread, addThread};
+ghost use Rattle.control.specs.Halves.{Choice, threadOf};
 
 // ---- clear and hand over
 
@@ -59,17 +56,6 @@ pub fn give_back_if(b: Banks, on: bool) -> Banks
         return give_back(b);
     }
     b
-}
-
-pub fn clear_banks(c: Control, clear: Clear) -> Control
-    ensures { λ r. ⌜ r ≡ clearBanks c clear ⌝ }
-{
-    let mut r = c;
-    let a = c.a;
-    let b = c.b;
-    r.a = give_back_if(a, clear.a);
-    r.b = give_back_if(b, clear.b);
-    r
 }
 
 // The bank at the unpackers' pointer becomes the matrix unit's, and their pointer moves to the other bank.
@@ -134,8 +120,9 @@ fn step_phase(phase: u8, by: PhaseStep) -> u8
     (phase % 4 + by.step % 4) % 4
 }
 
-pub fn apply_slot(x: Thread, s: Slot) -> Thread
-    ensures { λ r. ⌜ r ≡ applySlot x s ⌝ }
+// The address slots are any, here and below.
+pub fn apply_slot(x: Own, s: Slot) -> Own
+    ensures { λ r. ⌜ ((h : Choice) → threadOf r h ≡ applySlot (threadOf x h) s) ⌝ }
 {
     let mut r = x;
     let d = x.dst;
@@ -183,10 +170,9 @@ fn set_phase(phase: u8, on: bool) -> u8
     phase
 }
 
-pub fn set_counters(c: Control, thread: u8, which: Which, d: u32, b: u32, a: u32) -> Control
-    ensures { λ r. ⌜ r ≡ setCounters c thread which d b a ⌝ }
+pub fn set_counters(x: Own, which: Which, d: u32, b: u32, a: u32) -> Own
+    ensures { λ r. ⌜ ((h : Choice) → threadOf r h ≡ setThread (threadOf x h) which d b a) ⌝ }
 {
-    let x = thread_at(c, thread);
     let mut r = x;
     let old_d = x.dst;
     let old_a = x.a;
@@ -195,13 +181,12 @@ pub fn set_counters(c: Control, thread: u8, which: Which, d: u32, b: u32, a: u32
     r.a = set_src(old_a, which.a, a);
     r.b = set_src(old_b, which.b, b);
     r.phase = set_phase(x.phase, which.phase);
-    with_thread(c, thread, r)
+    r
 }
 
-pub fn add_counters(c: Control, thread: u8, d: u32, b: u32, a: u32) -> Control
-    ensures { λ r. ⌜ r ≡ addCounters c thread d b a ⌝ }
+pub fn add_counters(x: Own, d: u32, b: u32, a: u32) -> Own
+    ensures { λ r. ⌜ ((h : Choice) → threadOf r h ≡ addThread (threadOf x h) d b a) ⌝ }
 {
-    let x = thread_at(c, thread);
     let mut r = x;
     let mut new_d = x.dst;
     let mut new_a = x.a;
@@ -215,5 +200,5 @@ pub fn add_counters(c: Control, thread: u8, d: u32, b: u32, a: u32) -> Control
     r.dst = new_d;
     r.a = new_a;
     r.b = new_b;
-    with_thread(c, thread, r)
+    r
 }

@@ -15,7 +15,7 @@ use crate::THREADS;
 use crate::Thread;
 use cells::Width;
 ghost use mathlib.Core.Path.{_≡_};
-ghost use Rattle.control.specs.Record.{bf16Mode, widthFrom, widthOf, zeroSrc, zeroDst, zeroSlot, startThread, start, threadAt, slotUsed, ownedAt, matrixOwns, matrixOwnsNext, withThread};
+ghost use Rattle.control.specs.Record.{bf16Mode, widthFrom, widthOf, zeroSrc, zeroDst, zeroSlot, startThread, startSettings, startBanks, start, threadAt, slotUsed, ownedAt, matrixOwns, matrixOwnsNext};
 
 // ---- at the start
 
@@ -82,23 +82,35 @@ pub fn start_thread() -> Thread
     }
 }
 
-// The record before any field acts.
-pub fn start_record() -> Control
-    ensures { λ r. ⌜ r ≡ start ⌝ }
+pub(crate) fn start_settings() -> Settings
+    ensures { λ r. ⌜ r ≡ startSettings ⌝ }
 {
-    let settings = Settings {
+    Settings {
         format: 0,
         fp32: false,
         int8: false,
         fp16a: false,
         base: 0,
-    };
-    let banks = Banks {
+    }
+}
+
+pub(crate) fn start_banks() -> Banks
+    ensures { λ r. ⌜ r ≡ startBanks ⌝ }
+{
+    Banks {
         matrix: 0,
         unpack: 0,
         owned0: false,
         owned1: false,
-    };
+    }
+}
+
+// The record before any field acts.
+pub fn start_record() -> Control
+    ensures { λ r. ⌜ r ≡ start ⌝ }
+{
+    let settings = start_settings();
+    let banks = start_banks();
     let threads = [start_thread(); THREADS];
     Control {
         settings,
@@ -120,17 +132,6 @@ pub fn thread_at(c: Control, thread: u8) -> Thread
         2 => c.threads[2],
         _ => start_thread(),
     }
-}
-
-pub(crate) fn with_thread(c: Control, thread: u8, x: Thread) -> Control
-    ensures { λ r. ⌜ r ≡ withThread c thread x ⌝ }
-{
-    let i = thread as usize;
-    let mut r = c;
-    if i < THREADS {
-        r.threads[i] = x;
-    }
-    r
 }
 
 // The slot that a two-bit number names: plus 4 when the extra bit is 1.

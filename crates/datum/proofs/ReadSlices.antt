@@ -15,7 +15,7 @@ use Rattle.cells.specs.declared.layout.File.the-variants.{A, B}
 use Rattle.datum.specs.declared.Slices.{Slices}
 use Rattle.datum.specs.declared.Datum.the-variants.{Zero, Infinity, NotANumber, Finite}
 use Rattle.datum.specs.Part.{partOf}
-use Rattle.datum.specs.Read.{signOf, exponentOf, mantissaOf, highOf, lowOf, splitOf, kindOf, datumOf, datumSlices, inEach, slicesAs}
+use Rattle.datum.specs.Read.{signOf, exponentOf, mantissaOf, highOf, lowOf, splitOf, kindOf, datumOf, datumSlices, inEach, slicesAs, splitUpTo, asFinite, finiteSlices}
 use Rattle.datum.specs.Value.{finiteValue, keptMantissa, IsUnits, MakeUp}
 use Rattle.datum.proofs.Parts.{part-exact}
 
@@ -30,6 +30,20 @@ kind-slices f s e m = go (eqb e 0) (eqb e 255) (eqb m 0)
     go false true true = refl
     go false true false = refl
     go false false c = refl
+
+pub finite-slices : (f : File) (format x : ℕ) → datumSlices (asFinite f format x) ≡ finiteSlices f format x
+finite-slices f format x = go (eqb (exponentOf x) 0)
+  where
+    parts : Slices
+    parts = splitUpTo f (signOf x) (exponentOf x) (mantissaOf format x)
+
+    go : (a : Bool) → datumSlices (cond a Zero (Finite parts)) ≡ cond a (inEach (fin false 0 (pos 0))) parts
+    go true = refl
+    go false = refl
+
+-- below the exponent 255 a number read as zero or finite is its datum
+pub below-top : (f : File) (format x : ℕ) → eqb (exponentOf x) 255 ≡ false → asFinite f format x ≡ datumOf f format x
+below-top f format x h = simp h
 
 -- ---- the value
 

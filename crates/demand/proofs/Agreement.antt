@@ -26,10 +26,9 @@ use Rattle.product.specs.declared.Product.{Product}
 use Rattle.product.specs.Product.{rowsA, rowsB, rowsD, multiplied}
 use Rattle.product.proofs.MultipliedDst.{multiplied-agrees}
 use Rattle.rules.specs.declared.Reads.{Reads}
-use Rattle.rules.specs.declared.Unsets.{Unsets}
 use Rattle.rules.specs.ZeroSrc.{filledA, filledB}
 use Rattle.rules.specs.Shifts.{shiftedA, shiftedB}
-use Rattle.rules.specs.Vocabulary.{noSets}
+use Rattle.rules.specs.Vocabulary.{Unsets, noSets}
 use Rattle.rules.specs.Scalar.{scalarB}
 use Rattle.rules.specs.Access.{noUnsets, readsOf, setsOf, unsetsOf}
 use Rattle.cells.specs.Layout.{noSpan, cell, bankRow, register, span}

@@ -40,10 +40,15 @@ module _ (job : List ℕ) (at : ℕ) where
   unfolding fieldAt
   field-cut h = rw (lt-leb (endAt job at) (length job) h)
 
-  pub field-whole : (n : ℕ) → n ≡ le2 job (at + 1) → at + 3 + n ≤ length job
-      → wholeField at (readKind (jobWidth job) (getD job at 0) (take (at + 3 + n - (at + 3)) (drop (at + 3) job))) (at + 3 + n) ≡ fieldAt job at
+  pub field-whole : (n : ℕ) (f : Field) → n ≡ le2 job (at + 1) → at + 3 + n ≤ length job
+      → f ≡ wholeField at (readKind (jobWidth job) (getD job at 0) (take (at + 3 + n - (at + 3)) (drop (at + 3) job))) (at + 3 + n) → f ≡ fieldAt job at
   unfolding fieldAt
-  field-whole n e h = rw (← e, le-leb (at + 3 + n) (length job) h, add-sub-cancel-left (at + 3) n)
+  field-whole n f e h q = q ∙ rw (← e, le-leb (at + 3 + n) (length job) h, add-sub-cancel-left (at + 3) n)
+
+  -- of a known tag
+  pub field-tagged : (tag n : ℕ) (k : Kind) → getD job at 0 ≡ tag → n ≡ le2 job (at + 1) → at + 3 + n ≤ length job
+      → k ≡ readKind (jobWidth job) tag (take (at + 3 + n - (at + 3)) (drop (at + 3) job)) → wholeField at k (at + 3 + n) ≡ fieldAt job at
+  field-tagged tag n k t e h q = field-whole n (wholeField at k (at + 3 + n)) e h (rw (q, ← t))
 
 differ : {A : Type 0} → _≡_ {A = ℕ} 0 1 → A
 differ z = absurd (omega arith)

@@ -3,8 +3,12 @@ use crate::Cause;
 use crate::Field;
 use crate::Kind;
 use crate::bytes::byte_at;
+use crate::bytes::bytes_left;
 use crate::bytes::read2;
+use crate::bytes::wide;
 use crate::payload;
+use cells::THREAD_REGISTERS;
+use cells::THREADS;
 use cells::Width;
 ghost use mathlib.Core.Path.{_≡_};
 ghost use Rattle.job.specs.Kinds.{readKind};
@@ -99,10 +103,10 @@ pub fn payload_at(job: &[u8], at: usize) -> &[u8]
     &job[b..e]
 }
 
-// The field whose tag stands at `at`; bytes that are no whole field are a wrong one, up to the end.
-pub fn field_at(job: &[u8], at: usize) -> Field
-    ensures field { λ r. ⌜ r ≡ fieldAt (now (job .entry)) at ⌝ }
-    ensures answer { λ r. ⌜ fieldNumbers r ≡ fieldAnswer (now (job .entry)) at ⌝ }
+// The field whose tag stands at `at`; bytes that are no whole field are a wrong one, up to the end. With two callers it is compiled on its own, and
+// field_at stays small enough to become part of each walk.
+pub(crate) fn any_field_at(job: &[u8], at: usize) -> Field
+    ensures { λ r. ⌜ r ≡ fieldAt (now (job .entry)) at ⌝ }
 {
     let n = job.len();
     let cut = Field {
@@ -123,4 +127,39 @@ pub fn field_at(job: &[u8], at: usize) -> Field
     }
     let e = b + len;
     read_field(job, at, job[at], &job[b..e], e)
+}
+
+// The same. Most fields of a job issue a word or load a register, in eight or nine bytes: where these are right a walk reads them in its own code, and only
+// other fields by a call. Thread and register are tested first, so that no kind is put together byte by byte from a right and a wrong one; the reader's own
+// tests then fall away.
+pub fn field_at(job: &[u8], at: usize) -> Field
+    ensures field { λ r. ⌜ r ≡ fieldAt (now (job .entry)) at ⌝ }
+    ensures answer { λ r. ⌜ fieldNumbers r ≡ fieldAnswer (now (job .entry)) at ⌝ }
+{
+    if 9 <= bytes_left(job, at) {
+        let tag = job[at];
+        let len = read2(job, at + 1);
+        let b = at + 3;
+        if job[b] < THREADS {
+            if (tag == 5) & (len == 5) {
+                let e = b + 5;
+                return Field {
+                    place: at,
+                    kind: payload::read_issue(&job[b..e]),
+                    next: e,
+                };
+            }
+            if (tag == 3) & (len == 6) & (wide(job[b + 1]) < THREAD_REGISTERS) {
+                let e = b + 6;
+                return Field {
+                    place: at,
+                    kind: payload::read_load_register(&job[b..e]),
+                    next: e,
+                };
+            }
+        }
+    }
+    // By a name of its own: what a call writes stays in memory, and the answers above would with it.
+    let f = any_field_at(job, at);
+    f
 }

@@ -2,6 +2,7 @@
 use crate::Cause;
 use crate::Kind;
 use crate::Shape;
+use crate::fields::any_field_at;
 use crate::fields::field_at;
 use cells::JOB_BYTES;
 ghost use mathlib.Core.Path.{_≡_};
@@ -82,8 +83,17 @@ pub fn find_shape(job: &[u8]) -> Shape
     if JOB_BYTES < n {
         return Shape::WrongAt(0);
     }
-    let mut at = 0;
-    let mut stage = Stage::Opening;
+    // The settings come first, and field_at has no short way for them.
+    if n == 0 {
+        return shape_at_end(n, Stage::Opening);
+    }
+    let first = any_field_at(job, 0);
+    let opening = first.kind;
+    let Placed::InPlace(after) = place_field(Stage::Opening, opening) else {
+        return Shape::WrongAt(first.place);
+    };
+    let mut at = first.next;
+    let mut stage = after;
     while at < n {
         let f = field_at(job, at);
         let kind = f.kind;

@@ -1,5 +1,5 @@
 -- That nothing is lost between a record and its numbers.
-mod Written
+mod Parts
 pub mod Stands
 pub mod Whole
 pub mod RoundTrip

@@ -2,13 +2,13 @@
 use mathlib.Core.Path.{_≡_, refl, sym, ap, _∙_}
 use mathlib.Core.Bool.{Bool, true, false}
 use mathlib.Core.List.{List, [], _∷_, _++_}
-use Prim.Native.Nat.{ℕ, zero, suc, _+_, _-_, _*_, _/_, _%_, _<_, _≤_}
+use Prim.Native.Nat.{ℕ, zero, suc, _+_, _*_, _<_, _≤_}
 use native.Mathlib.Nat.{add-zero, add-assoc}
 use native.Mathlib.Omega.{arith}
 use lib.Dec.{eqb, ltb}
 use lib.ListN.{length, getD, take, replicate}
 use lib.Seq.{take-suc, take-length}
-use borrow.Author.Tests.{eqb-true, eq-eqb, ltb-true, lt-ltb, le-ltb}
+use borrow.Author.Tests.{eqb-true, eq-eqb, ltb-true, lt-ltb}
 use Rattle.cells.specs.Layout.{bankCount, threadCount}
 use Rattle.cells.specs.Cells.{between, tabulate}
 use Rattle.cells.proofs.Cells.{both, length-over, over-in, between-in}
@@ -21,8 +21,9 @@ use Rattle.control.specs.declared.Banks.{Banks}
 use Rattle.control.specs.declared.Control.{Control}
 use Rattle.control.proofs.Bounds.{shared-bounds}
 use Rattle.numbers.specs.Places.{ownLength, slotLength, banksA, banksB, lastRow, sharedLength, threadLength, recordLength}
-use Rattle.numbers.specs.Lists.{flag, ownNumbers, slotNumber, threadNumber, sharedNumber, numberAt, recordOver}
+use Rattle.numbers.specs.Lists.{flag, sharedNumbers, ownNumbers, slotNumberAt, threadNumber, numberAt, recordOver}
 use Rattle.numbers.specs.Record.{byte, half, on, slotFrom, slotsFrom, threadFrom, banksFrom, controlFrom, numberFrom, readOf, numbersOf, stands, recordOf}
+use Rattle.numbers.proofs.Parts.{shared-at, thread-from, own-at, slot-from}
 use Rattle.numbers.proofs.Stands.{reads-as, in-range-stands}
 use Rattle.numbers.proofs.Whole.{Whole}
 
@@ -55,11 +56,11 @@ module _ (n : ℕ → ℕ) where
   first : (b : ℕ) {x : ℕ} → n (b + 0) ≡ x → n b ≡ x
   first b e = ap n (sym (add-zero b)) ∙ e
 
-  slot-back : (s : Slot) (b : ℕ) → slotOk s ≡ true → ((i : ℕ) → i < slotLength → n (b + i) ≡ slotNumber s i) → slotFrom n b ≡ s
-  unfolding slotNumber
+  slot-back : (s : Slot) (b : ℕ) → slotOk s ≡ true → ((i : ℕ) → i < slotLength → n (b + i) ≡ slotNumberAt s i) → slotFrom n b ≡ s
+  unfolding slotNumberAt
   slot-back s b ok at =
       let e = each-of (slotTests s) ok in
-      let a : (i : ℕ) → ltb i slotLength ≡ true → n (b + i) ≡ slotNumber s i = λ i h. at i (ltb-true i slotLength h) in
+      let a : (i : ℕ) → ltb i slotLength ≡ true → n (b + i) ≡ slotNumberAt s i = λ i h. at i (ltb-true i slotLength h) in
       λ j. record {
         a = record {
           step = record { 0 = byte-of 64 (first b (a 0 refl)) (e .0) (omega arith) j };
@@ -81,24 +82,20 @@ module _ (n : ℕ → ℕ) where
       }
 
   slots-back : (l : List Slot) (b : ℕ) → length l ≡ slotCount → slotsOk l ≡ true
-      → ((i : ℕ) → i < slotCount * slotLength → n (b + i) ≡ slotNumber (getD l (i / slotLength) zeroSlot) (i % slotLength)) → slotsFrom n b ≡ l
+      → ((s i : ℕ) → s < slotCount → i < slotLength → n (b + slotLength * s + i) ≡ slotNumberAt (getD l s zeroSlot) i) → slotsFrom n b ≡ l
   unfolding slotsFrom slotsOk
   slots-back l b h ok at =
       table-back l zeroSlot _ slotCount h
-      (λ k g. slot-back (getD l k zeroSlot) _ (below-of (λ (i : ℕ). slotOk (getD l i zeroSlot)) slotCount ok k g)
-      (λ i f.
-      let p : (slotLength * k + i) / slotLength ≡ k = omega arith in
-      let q : (slotLength * k + i) % slotLength ≡ i = omega arith in
-      ap n (add-assoc b (slotLength * k) i) ∙ at (slotLength * k + i) (omega arith) ∙ (λ j. slotNumber (getD l (p j) zeroSlot) (q j))))
+      (λ s g. slot-back (getD l s zeroSlot) _ (below-of (λ (i : ℕ). slotOk (getD l i zeroSlot)) slotCount ok s g) (λ i f. at s i g f))
 
   thread-back : (x : Thread) (b : ℕ) → length (x .slots) ≡ slotCount → threadOk x ≡ true → ((i : ℕ) → i < threadLength → n (b + i) ≡ threadNumber x i) → threadFrom n b ≡ x
-  unfolding threadFrom threadNumber
+  unfolding threadFrom
   thread-back x b h ok at =
       let e = each-of (threadTests x) ok in
       let d = each-of (dstTests (x .dst)) (e .0) in
       let p = each-of (srcTests (x .a)) (e .1 .0) in
       let q = each-of (srcTests (x .b)) (e .1 .1 .0) in
-      let a : (i : ℕ) → ltb i ownLength ≡ true → n (b + i) ≡ getD (ownNumbers x) i 0 = λ i f. let l = ltb-true i ownLength f in at i (omega arith) ∙ rw f in
+      let a : (i : ℕ) → ltb i ownLength ≡ true → n (b + i) ≡ getD (ownNumbers x) i 0 = λ i f. let l = ltb-true i ownLength f in at i (omega arith) ∙ own-at x i l in
       λ j. record {
         dst = record { at = record { 0 = half-of (first b (a 0 refl)) (d .0) j }; carry = record { 0 = half-of (a 1 refl) (d .1 .0) j } };
         a = record {
@@ -116,11 +113,10 @@ module _ (n : ℕ → ℕ) where
         slots = slots-back (x .slots) (b + ownLength) h (e .1 .1 .1 .1 .1 .1 .0) after j;
       }
     where
-      after : (i : ℕ) → i < slotCount * slotLength → n (b + ownLength + i) ≡ slotNumber (getD (x .slots) (i / slotLength) zeroSlot) (i % slotLength)
-      after i f =
-          let m : ownLength + i - ownLength ≡ i = omega arith in
-          ap n (add-assoc b ownLength i) ∙ at (ownLength + i) (omega arith)
-          ∙ rw (le-ltb (ownLength + i) ownLength (omega arith)) (λ j. slotNumber (getD (x .slots) (m j / slotLength) zeroSlot) (m j % slotLength))
+      after : (s i : ℕ) → s < slotCount → i < slotLength → n (b + ownLength + slotLength * s + i) ≡ slotNumberAt (getD (x .slots) s zeroSlot) i
+      after s i g f =
+          let m : b + ownLength + slotLength * s + i ≡ b + (ownLength + slotLength * s + i) = omega arith in
+          ap n m ∙ at (ownLength + slotLength * s + i) (omega arith) ∙ slot-from x s i _ f refl
 
   banks-back : (x : Banks) (b : ℕ) → banksOk x ≡ true → n b ≡ x .matrix → n (b + 1) ≡ x .unpack → n (b + 2) ≡ flag (x .owned0) → n (b + 3) ≡ flag (x .owned1) → banksFrom n b ≡ x
   banks-back x b ok m u o p =
@@ -133,11 +129,11 @@ module _ (n : ℕ → ℕ) where
       }
 
   control-back : (c : Control) → Whole c → inRange c ≡ true → ((p : ℕ) → p < recordLength → n p ≡ numberAt c p) → controlFrom n ≡ c
-  unfolding controlFrom numberAt sharedNumber inRange threadsOk
+  unfolding controlFrom inRange threadsOk
   control-back c w ok at =
       let e = each-of (rangeTests c) ok in
       let s = each-of (settingsTests (c .settings)) (e .0) in
-      let a : (i : ℕ) → ltb i sharedLength ≡ true → n i ≡ sharedNumber c i = λ i f. let l = ltb-true i sharedLength f in at i (omega arith) ∙ rw f in
+      let a : (i : ℕ) → ltb i sharedLength ≡ true → n i ≡ getD (sharedNumbers (c .settings) (c .a) (c .b) (c .last)) i 0 = λ i f. let l = ltb-true i sharedLength f in at i (omega arith) ∙ shared-at c i l in
       λ j. record {
         settings = record {
           format = byte-of 14 (a 0 refl) (s .0) (omega arith) j;
@@ -153,11 +149,7 @@ module _ (n : ℕ → ℕ) where
       }
     where
       after : (t : ℕ) → t < threadCount → (i : ℕ) → i < threadLength → n (sharedLength + threadLength * t + i) ≡ threadNumber (threadAt c t) i
-      after t h i f =
-          let x = sharedLength + threadLength * t + i in
-          let k : (x - sharedLength) / threadLength ≡ t = omega arith in
-          let m : (x - sharedLength) % threadLength ≡ i = omega arith in
-          at x (omega arith) ∙ rw (le-ltb x sharedLength (omega arith)) (λ j. threadNumber (threadAt c (k j)) (m j))
+      after t h i f = at (sharedLength + threadLength * t + i) (omega arith) ∙ thread-from c t i _ f refl
 
 -- ---- the round trip
 
@@ -167,7 +159,8 @@ round-trip c l w ok h =
     let n = recordOver c l in
     let long : length n ≡ recordLength = length-over (between 0 recordLength) (numberAt c) l ∙ h in
     let at : (p : ℕ) → p < recordLength → numberFrom n p ≡ numberAt c p = λ p f. over-in (between 0 recordLength) (numberAt c) l p 0 (between-in 0 recordLength p (omega arith) f) (omega arith) in
-    sym (reads-as n long (sym (control-back (numberFrom n) c w ok at)) (of-below (λ (p : ℕ). eqb (numberFrom n p) (numberAt c p)) recordLength (λ p f. eq-eqb _ _ (at p f))))
+    let back : c ≡ readOf n = sym (control-back (numberFrom n) c w ok at) in
+    sym (reads-as n long back (ap (numbersOf n) (sym back) ∙ of-below (λ (p : ℕ). eqb (numberFrom n p) (numberAt c p)) recordLength (λ p f. eq-eqb _ _ (at p f))))
 
 -- a list that is taken for a record in range has that record's numbers, each flag 0 or 1
 pub taken-whole : (l : List ℕ) → inRange (recordOf l) ≡ true → (p : ℕ) → p < recordLength → numberFrom l p ≡ numberAt (recordOf l) p
@@ -179,5 +172,5 @@ taken-whole l h p f =
 
 -- the numbers of the record at the start are all 0
 pub at-start : recordOf (replicate recordLength 0) ≡ start
-unfolding recordOf stands numbersOf numberAt sharedNumber threadNumber slotNumber controlFrom threadFrom slotsFrom start
+unfolding recordOf stands numbersOf numberAt threadNumber slotNumberAt controlFrom threadFrom slotsFrom start
 at-start = refl

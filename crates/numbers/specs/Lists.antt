@@ -1,17 +1,18 @@
 -- The numbers of a record: each part in the order of its struct, the threads last; a flag is 0 or 1. Definitions only.
 use mathlib.Core.Bool.{Bool, true, false, cond}
-use mathlib.Core.List.{List, [], _∷_}
-use Prim.Native.Nat.{ℕ, _-_, _/_, _%_}
-use lib.Dec.{ltb}
+use mathlib.Core.List.{List, [], _∷_, _++_}
+use Prim.Native.Nat.{ℕ, _+_, _-_, _/_, _%_}
+use lib.Dec.{eqb, ltb}
 use lib.ListN.{getD}
-use Rattle.cells.specs.Cells.{over, between}
+use Rattle.cells.specs.Cells.{over, between, within}
+use Rattle.cells.specs.Tests.{below}
 use Rattle.control.specs.Record.{zeroSlot, threadAt}
 use Rattle.control.specs.declared.Slot.{Slot}
 use Rattle.control.specs.declared.Thread.{Thread}
 use Rattle.control.specs.declared.Settings.{Settings}
 use Rattle.control.specs.declared.Banks.{Banks}
 use Rattle.control.specs.declared.Control.{Control}
-use Rattle.numbers.specs.Places.{ownLength, slotLength, banksA, banksB, lastRow, sharedLength, threadLength, recordLength}
+use Rattle.numbers.specs.Places.{ownLength, slotLength, sharedLength, threadLength, recordLength}
 
 abbrev pub flag : Bool → ℕ
 flag false = 0
@@ -26,6 +27,10 @@ settingsNumbers s = s .format ∷ flag (s .fp32) ∷ flag (s .int8) ∷ flag (s 
 -- the matrix unit's pointer, the unpackers' pointer, the matrix unit owns bank 0, bank 1
 abbrev pub banksNumbers : Banks → List ℕ
 banksNumbers b = b .matrix ∷ b .unpack ∷ flag (b .owned0) ∷ flag (b .owned1) ∷ []
+
+-- the settings, SrcA's banks, SrcB's banks, the last SrcA row
+abbrev pub sharedNumbers : Settings → Banks → Banks → ℕ → List ℕ
+sharedNumbers s a b last = settingsNumbers s ++ (banksNumbers a ++ (banksNumbers b ++ (last ∷ [])))
 
 -- ---- a thread
 
@@ -45,29 +50,31 @@ slotNumbers s =
 
 -- ---- the number at a place
 
-unfoldable pub slotNumber : Slot → ℕ → ℕ
-slotNumber s p = getD (slotNumbers s) p 0
+unfoldable pub slotNumberAt : Slot → ℕ → ℕ
+slotNumberAt s p = getD (slotNumbers s) p 0
 
 -- a thread's own numbers, then its slots
 unfoldable pub threadNumber : Thread → ℕ → ℕ
 threadNumber x p =
     cond (ltb p ownLength) (getD (ownNumbers x) p 0)
-    (slotNumber (getD (x .slots) ((p - ownLength) / slotLength) zeroSlot) ((p - ownLength) % slotLength))
-
--- the settings, SrcA's banks, SrcB's banks, the last SrcA row
-unfoldable pub sharedNumber : Control → ℕ → ℕ
-sharedNumber c p =
-    cond (ltb p banksA) (getD (settingsNumbers (c .settings)) p 0)
-    (cond (ltb p banksB) (getD (banksNumbers (c .a)) (p - banksA) 0)
-    (cond (ltb p lastRow) (getD (banksNumbers (c .b)) (p - banksB) 0)
-    (c .last)))
+    (slotNumberAt (getD (x .slots) ((p - ownLength) / slotLength) zeroSlot) ((p - ownLength) % slotLength))
 
 -- what the threads share, then the threads
 unfoldable pub numberAt : Control → ℕ → ℕ
 numberAt c p =
-    cond (ltb p sharedLength) (sharedNumber c p)
+    cond (ltb p sharedLength) (getD (sharedNumbers (c .settings) (c .a) (c .b) (c .last)) p 0)
     (threadNumber (threadAt c ((p - sharedLength) / threadLength)) ((p - sharedLength) % threadLength))
 
 -- the numbers of c over those of l
 abbrev pub recordOver : Control → List ℕ → List ℕ
 recordOver c l = over (between 0 recordLength) (numberAt c) l
+
+-- ---- a part of a record: `count` numbers from place b on
+
+-- they are those that f gives; n gives the number at a place
+abbrev pub sameFrom : ℕ → ℕ → (ℕ → ℕ) → (ℕ → ℕ) → Bool
+sameFrom b count f n = below (λ (i : ℕ). eqb (n (b + i)) (f i)) count
+
+-- those that f gives over those of l
+abbrev pub overFrom : ℕ → ℕ → (ℕ → ℕ) → List ℕ → List ℕ
+overFrom b count f l = over (within b count) (λ (p : ℕ). f (p - b)) l

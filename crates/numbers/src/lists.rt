@@ -1,26 +1,26 @@
-// The numbers of a record: part by part, the one at a place, and all of them written.
-use crate::places::BANKS;
-use crate::places::BANKS_A;
-use crate::places::BANKS_B;
-use crate::places::LAST_ROW;
+// The numbers of a record, part by part, and all of them written.
 use crate::places::OWN;
 use crate::places::RECORD;
-use crate::places::SETTINGS;
 use crate::places::SHARED;
 use crate::places::SLOT;
 use crate::places::THREAD;
 use control::Banks;
 use control::Control;
+use control::SLOTS;
 use control::Settings;
 use control::Slot;
+use control::THREADS;
 use control::Thread;
 ghost use mathlib.Core.Path.{_≡_};
-ghost use Prim.Native.Nat.{_<_};
-ghost use Rattle.numbers.specs.Places.{sharedLength, threadLength, recordLength};
-ghost use Rattle.numbers.specs.Lists.{settingsNumbers, banksNumbers, ownNumbers, slotNumbers, threadNumber, sharedNumber, numberAt, recordOver};
+ghost use Prim.Native.Nat.{_+_, _≤_};
+ghost use lib.ListN.{length};
+ghost use Rattle.numbers.specs.Places.{threadLength, recordLength};
+ghost use Rattle.numbers.specs.Lists.{sharedNumbers, ownNumbers, slotNumbers, threadNumber, recordOver, overFrom};
+ghost use Rattle.numbers.specs.Record.{numberFrom};
 
-fn settings_numbers(s: Settings) -> [u32; SETTINGS]
-    ensures { λ r. ⌜ r ≡ settingsNumbers s ⌝ }
+// What the threads share.
+pub(crate) fn shared_numbers(s: Settings, a: Banks, b: Banks, last: u8) -> [u32; SHARED]
+    ensures { λ r. ⌜ r ≡ sharedNumbers s a b last ⌝ }
 {
     [
         s.format as u32,
@@ -28,22 +28,20 @@ fn settings_numbers(s: Settings) -> [u32; SETTINGS]
         s.int8 as u32,
         s.fp16a as u32,
         s.base as u32,
-    ]
-}
-
-fn banks_numbers(b: Banks) -> [u32; BANKS]
-    ensures { λ r. ⌜ r ≡ banksNumbers b ⌝ }
-{
-    [
+        a.matrix as u32,
+        a.unpack as u32,
+        a.owned0 as u32,
+        a.owned1 as u32,
         b.matrix as u32,
         b.unpack as u32,
         b.owned0 as u32,
         b.owned1 as u32,
+        last as u32,
     ]
 }
 
 // A thread's own. The last fields come first: their bounds are found only where few facts stand before them.
-fn own_numbers(x: Thread) -> [u32; OWN]
+pub(crate) fn own_numbers(x: Thread) -> [u32; OWN]
     ensures { λ r. ⌜ r ≡ ownNumbers x ⌝ }
 {
     let fidelity = x.fidelity as u32;
@@ -61,7 +59,7 @@ fn own_numbers(x: Thread) -> [u32; OWN]
     ]
 }
 
-fn slot_numbers(s: Slot) -> [u32; SLOT]
+pub(crate) fn slot_numbers(s: Slot) -> [u32; SLOT]
     ensures { λ r. ⌜ r ≡ slotNumbers s ⌝ }
 {
     [
@@ -80,62 +78,58 @@ fn slot_numbers(s: Slot) -> [u32; SLOT]
     ]
 }
 
-// The number at a place of a thread.
-fn thread_number(x: Thread, p: usize) -> u32
-    requires { ⌜ p < threadLength ⌝ }
-    ensures { λ r. ⌜ r ≡ threadNumber x p ⌝ }
+// ---- written
+
+// A part's numbers from place `b` on.
+fn put(n: &mut [u32], b: usize, part: &[u32])
+    requires { ⌜ b + length (now part) ≤ length (now n) ⌝ }
+    ensures { λ _. ⌜ now (n .exit) ≡ overFrom b (length (now (part .entry))) (numberFrom (now (part .entry))) (now (n .entry)) ⌝ }
 {
-    if p < OWN {
-        let own = own_numbers(x);
-        return own[p];
+    for i in 0..part.len() {
+        n[b + i] = part[i];
     }
-    let slot = x.slots[(p - OWN) / SLOT];
-    let numbers = slot_numbers(slot);
-    numbers[(p - OWN) % SLOT]
 }
 
-// The number at a place that all threads share.
-fn shared_number(c: Control, p: usize) -> u32
-    requires { ⌜ p < sharedLength ⌝ }
-    ensures { λ r. ⌜ r ≡ sharedNumber c p ⌝ }
+fn put_thread(n: &mut [u32], b: usize, x: Thread)
+    requires { ⌜ b + threadLength ≤ length (now n) ⌝ }
+    ensures { λ _. ⌜ now (n .exit) ≡ overFrom b threadLength (threadNumber x) (now (n .entry)) ⌝ }
 {
-    if p < BANKS_A {
-        let settings = settings_numbers(c.settings);
-        return settings[p];
+    let own = own_numbers(x);
+    put(n, b, &own);
+    let first = b + OWN;
+    for s in 0..SLOTS {
+        let slot = x.slots[s];
+        let numbers = slot_numbers(slot);
+        put(n, first + SLOT * s, &numbers);
     }
-    if p < BANKS_B {
-        let banks = banks_numbers(c.a);
-        return banks[p - BANKS_A];
-    }
-    if p < LAST_ROW {
-        let banks = banks_numbers(c.b);
-        return banks[p - BANKS_B];
-    }
-    c.last as u32
 }
 
-// The number at a place of a record.
-pub(crate) fn number_at(c: Control, p: usize) -> u32
-    requires { ⌜ p < recordLength ⌝ }
-    ensures { λ r. ⌜ r ≡ numberAt c p ⌝ }
+fn put_record(n: &mut [u32], c: Control)
+    requires { ⌜ recordLength ≤ length (now n) ⌝ }
+    ensures { λ _. ⌜ now (n .exit) ≡ recordOver c (now (n .entry)) ⌝ }
 {
-    if p < SHARED {
-        return shared_number(c, p);
+    let settings = c.settings;
+    let a = c.a;
+    let b = c.b;
+    let shared = shared_numbers(settings, a, b, c.last);
+    put(n, 0, &shared);
+    for t in 0..THREADS {
+        let x = c.threads[t];
+        put_thread(n, SHARED + THREAD * t, x);
     }
-    let thread = control::thread_at(c, ((p - SHARED) / THREAD) as u8);
-    thread_number(thread, (p - SHARED) % THREAD)
 }
 
 // The numbers of a record over those of `n`, as far as `n` goes.
 pub fn write(c: Control, n: &mut [u32])
     ensures { λ _. ⌜ now (n .exit) ≡ recordOver c (now (n .entry)) ⌝ }
 {
-    let mut p = 0;
-    while p < RECORD {
-        if n.len() <= p {
-            return;
-        }
-        n[p] = number_at(c, p);
-        p += 1;
+    if RECORD <= n.len() {
+        put_record(n, c);
+        return;
+    }
+    let mut whole = [0; RECORD];
+    put_record(&mut whole, c);
+    for p in 0..n.len() {
+        n[p] = whole[p];
     }
 }

@@ -1,5 +1,7 @@
 // The record that numbers stand for, part by part from place `b` on.
-use crate::lists::number_at;
+use crate::lists::own_numbers;
+use crate::lists::shared_numbers;
+use crate::lists::slot_numbers;
 use crate::places::BANKS_A;
 use crate::places::BANKS_B;
 use crate::places::LAST_ROW;
@@ -23,11 +25,11 @@ use control::Src;
 use control::SrcStep;
 use control::Thread;
 ghost use mathlib.Core.Path.{_≡_};
-ghost use Prim.Native.Nat.{_+_, _*_, _≤_};
+ghost use Prim.Native.Nat.{_+_, _≤_};
 ghost use lib.ListN.{length};
-ghost use Rattle.control.specs.Record.{slotCount};
-ghost use Rattle.numbers.specs.Places.{settingsLength, banksLength, ownLength, slotLength, threadLength, recordLength};
-ghost use Rattle.numbers.specs.Record.{settingsFrom, banksFrom, slotFrom, slotsFrom, ownFrom, threadFrom, numberFrom, readOf, numbersOf, noRecord, recordOf};
+ghost use Rattle.numbers.specs.Places.{settingsLength, banksLength, ownLength, slotLength, threadLength};
+ghost use Rattle.numbers.specs.Lists.{threadNumber, sameFrom};
+ghost use Rattle.numbers.specs.Record.{settingsFrom, banksFrom, slotFrom, ownFrom, threadFrom, numberFrom, noRecord, recordOf};
 
 fn read_settings(n: &[u32]) -> Settings
     requires { ⌜ settingsLength ≤ length (now n) ⌝ }
@@ -82,17 +84,6 @@ fn read_slot(n: &[u32], b: usize) -> Slot
     }
 }
 
-fn read_slots(n: &[u32], b: usize) -> [Slot; SLOTS]
-    requires { ⌜ b + slotCount * slotLength ≤ length (now n) ⌝ }
-    ensures { λ r. ⌜ r ≡ slotsFrom (numberFrom (now (n .entry))) b ⌝ }
-{
-    let mut slots = [control::zero_slot(); SLOTS];
-    for s in 0..SLOTS {
-        slots[s] = read_slot(n, b + SLOT * s);
-    }
-    slots
-}
-
 // A thread's own numbers, with its slots.
 fn read_own(n: &[u32], b: usize, slots: [Slot; SLOTS]) -> Thread
     requires { ⌜ b + ownLength ≤ length (now n) ⌝ }
@@ -119,41 +110,46 @@ fn read_own(n: &[u32], b: usize, slots: [Slot; SLOTS]) -> Thread
     }
 }
 
-fn read_thread(n: &[u32], b: usize) -> Thread
-    requires { ⌜ b + threadLength ≤ length (now n) ⌝ }
-    ensures { λ r. ⌜ r ≡ threadFrom (numberFrom (now (n .entry))) b ⌝ }
-{
-    read_own(n, b, read_slots(n, b + OWN))
-}
+// ---- read, and compared with what was read
 
-fn read_record(n: &[u32]) -> Control
-    requires { ⌜ recordLength ≤ length (now n) ⌝ }
-    ensures { λ r. ⌜ r ≡ readOf (now (n .entry)) ⌝ }
-{
-    let threads = [
-        read_thread(n, THREAD_0),
-        read_thread(n, THREAD_1),
-        read_thread(n, THREAD_2),
-    ];
-    Control {
-        settings: read_settings(n),
-        threads,
-        a: read_banks(n, BANKS_A),
-        b: read_banks(n, BANKS_B),
-        last: (n[LAST_ROW] % 256) as u8,
-    }
-}
-
-// Whether these are the numbers of the record c.
-fn numbers_of(n: &[u32], c: Control) -> bool
-    requires { ⌜ recordLength ≤ length (now n) ⌝ }
-    ensures { λ r. ⌜ r ≡ numbersOf (now (n .entry)) c ⌝ }
+// Whether a part's numbers stand from place `b` on.
+fn stand(n: &[u32], b: usize, part: &[u32]) -> bool
+    requires { ⌜ b + length (now part) ≤ length (now n) ⌝ }
+    ensures { λ r. ⌜ r ≡ sameFrom b (length (now (part .entry))) (numberFrom (now (part .entry))) (numberFrom (now (n .entry))) ⌝ }
 {
     let mut same = true;
-    for p in 0..RECORD {
-        same = same & (n[p] == number_at(c, p));
+    for i in 0..part.len() {
+        same = same & (n[b + i] == part[i]);
     }
     same
+}
+
+// A thread, and whether its numbers are those that it was read from.
+struct Found {
+    thread: Thread,
+    same: bool,
+}
+
+// Each slot is compared as it is read: the test is then on the numbers alone, and nothing is looked up in the record.
+fn read_thread(n: &[u32], b: usize) -> Found
+    requires { ⌜ b + threadLength ≤ length (now n) ⌝ }
+    ensures { λ r. ⌜ (r .thread ≡ threadFrom (numberFrom (now (n .entry))) b)
+        × (r .same ≡ sameFrom b threadLength (threadNumber (threadFrom (numberFrom (now (n .entry))) b)) (numberFrom (now (n .entry)))) ⌝ }
+{
+    let mut slots = [control::zero_slot(); SLOTS];
+    let mut same = true;
+    let first = b + OWN;
+    for s in 0..SLOTS {
+        let p = first + SLOT * s;
+        let slot = read_slot(n, p);
+        let numbers = slot_numbers(slot);
+        same = same & stand(n, p, &numbers);
+        slots[s] = slot;
+    }
+    let thread = read_own(n, b, slots);
+    let own = own_numbers(thread);
+    same = stand(n, b, &own) & same;
+    Found { thread, same }
 }
 
 // A record out of range.
@@ -172,9 +168,27 @@ pub fn read(n: &[u32]) -> Control
     if n.len() != RECORD {
         return no_record();
     }
-    let c = read_record(n);
-    if numbers_of(n, c) {
-        return c;
+    let settings = read_settings(n);
+    let a = read_banks(n, BANKS_A);
+    let b = read_banks(n, BANKS_B);
+    let last = (n[LAST_ROW] % 256) as u8;
+    let shared = shared_numbers(settings, a, b, last);
+    let same = stand(n, 0, &shared);
+    let x = read_thread(n, THREAD_0);
+    let y = read_thread(n, THREAD_1);
+    let z = read_thread(n, THREAD_2);
+    if same & x.same & y.same & z.same {
+        let first = x.thread;
+        let second = y.thread;
+        let third = z.thread;
+        let threads = [first, second, third];
+        return Control {
+            settings,
+            threads,
+            a,
+            b,
+            last,
+        };
     }
     no_record()
 }

@@ -5,10 +5,15 @@ use mathlib.Core.List.{List, [], _∷_}
 use Prim.Native.Nat.{ℕ, _+_, _≤_, _<_}
 use native.Mathlib.Omega.{arith}
 use lib.ListN.{length}
+use Rattle.word.specs.Word.{readWord}
+use Rattle.word.specs.declared.Operands.{Operands}
+use Rattle.word.specs.declared.Read.{Read}
+use Rattle.word.specs.declared.Read.the-variants as read
 use Rattle.word.specs.declared.Refusal.{Refusal}
 use Rattle.word.specs.declared.Refusal.the-variants as refusal
 use Rattle.control.specs.declared.Control.{Control}
 use Rattle.control.specs.Record.{start}
+use Rattle.rules.specs.After.{recordAfter}
 use Rattle.rules.specs.Rules.{lowest}
 use Rattle.rules.specs.declared.Verdict.{Verdict}
 use Rattle.rules.specs.declared.Verdict.the-variants as verdict
@@ -17,6 +22,7 @@ use Rattle.job.specs.Shape.{shapeOf}
 use Rattle.job.specs.declared.Shape.{Shape}
 use Rattle.job.specs.declared.Shape.the-variants as shape
 use Rattle.job.specs.declared.Kind.{Kind}
+use Rattle.job.specs.declared.Kind.the-variants.{Issue}
 use Rattle.job.specs.declared.Field.{Field}
 use Rattle.job.proofs.Walk.{next-after, Reached, reached-first, reached-end, reached-stop, reached-on}
 use Rattle.walk.specs.FieldRecord.{fieldControl, issueOf}
@@ -24,9 +30,11 @@ use Rattle.walk.proofs.RecordKept.{issue-most}
 use Rattle.precheck.specs.Marks.{Marks, marks, unsetBut, unset}
 use Rattle.precheck.specs.Judging.{fieldRules}
 use Rattle.precheck.specs.Marking.{fieldMarks}
+use Rattle.precheck.specs.Instruction.{InstructionChecked}
 use Rattle.precheck.specs.Check.{unlessBroken, checkFrom, unlessWrong, precheckOf, checkedAnswer, precheckAnswer}
 use Rattle.precheck.specs.declared.Checked.{Checked}
 use Rattle.precheck.specs.declared.Checked.the-variants.{Passed, Refused}
+use Rattle.precheck.proofs.Judged.{rules-by, marks-by, control-by}
 
 -- ---- over a list of fields
 
@@ -98,6 +106,16 @@ module _ (job : List ℕ) (d₀ a b d r : List Bool) (c : Control) (n at : ℕ) 
           long = l ∙ t .long;
           few = omega (arith, i, issue-most k, t .few, next-after job at f h e);
         }
+
+  -- the word of an issue field was read as x, and the instruction o passed
+  pub issue-on : (f : Field) → at < length job → f ≡ fieldAt job at → (u w : ℕ) → f .kind ≡ Issue u w
+      → {x : Read} → x ≡ readWord w → {o : Operands} → x ≡ read.Operands o
+      → {v : Verdict} {a′ b′ r′ : List Bool} → InstructionChecked c (marks a b d r) u o v (marks a′ b′ d r′) → v ≡ verdict.Done
+      → {c′ : Control} → c′ ≡ recordAfter c u o → Checking job d₀ a′ b′ d r′ c′ (n + 1) (f .next)
+  unfolding fieldControl
+  issue-on f h e u w q ex eo s p ec =
+      turn-on f h e (Issue u w) q (rules-by c (marks a b d r) u w ex eo (s .verdict) ∙ p) (control-by c u w ex eo ec)
+      (marks-by c (marks a b d r) u w ex eo (s .marked p)) refl refl
 
 -- ---- the shape first
 

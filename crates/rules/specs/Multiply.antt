@@ -8,9 +8,10 @@ use Rattle.word.specs.declared.Height.{Height}
 use Rattle.word.specs.declared.Height.the-variants.{Eight, Four}
 use Rattle.word.specs.declared.Multiply.{Multiply}
 use Rattle.control.specs.declared.Settings.{Settings}
-use Rattle.control.specs.declared.Thread.{Thread}
+use Rattle.control.specs.declared.Own.{Own}
 use Rattle.control.specs.declared.Control.{Control}
 use Rattle.control.specs.Record.{bf16Mode, threadAt}
+use Rattle.control.specs.Halves.{ownOf}
 use Rattle.rules.specs.declared.Reads.{Reads}
 use Rattle.rules.specs.Vocabulary.{Both, SlotAndLast, Meaning, quiet, _·_, undefinedIf, modelledFor, needing, onDst, reading, clearing, moving, rowsRead}
 
@@ -32,13 +33,13 @@ fp32Mode s = ((s .fp32 && not (s .int8)) && not (s .fp16a)) && (eqb (s .format) 
 abbrev pub modelled : Settings → Bool
 modelled s = fp32Mode s || bf16Mode (s .format) (s .fp32) (s .int8) (s .fp16a)
 
--- ---- the rows, by the thread's counters
+-- ---- the rows, by the thread's own numbers
 
 -- a = SrcA counter & 0x30; b = SrcB counter & 0x38
-abbrev pub countedA : Thread → ℕ
+abbrev pub countedA : Own → ℕ
 countedA x = bitAnd (x .a .at .0) 0x30
 
-abbrev pub countedB : Thread → ℕ
+abbrev pub countedB : Own → ℕ
 countedB x = bitAnd (x .b .at .0) 0x38
 
 -- the mask of the Dst row: & 0x3F8; GAPOOL & 0x3FC
@@ -47,25 +48,25 @@ heightMask Eight = 0x3F8
 heightMask Four = 0x3FC
 
 -- Dst row = (dst + math offset + Dst counter + base), masked
-abbrev pub countedDst : ℕ → Thread → Height → ℕ → ℕ
+abbrev pub countedDst : ℕ → Own → Height → ℕ → ℕ
 countedDst base x h dst = bitAnd (dst + x .offset + x .dst .at .0 + base) (heightMask h)
 
 -- phase = (FidelityPhase + fidelity base) mod 4
-abbrev pub countedPhase : Thread → ℕ
+abbrev pub countedPhase : Own → ℕ
 countedPhase x = (x .phase + x .fidelity) % 4
 
 -- the same of thread t
 unfoldable pub rowA : Control → ℕ → ℕ
-rowA c t = countedA (threadAt c t)
+rowA c t = countedA (ownOf (threadAt c t))
 
 unfoldable pub rowB : Control → ℕ → ℕ
-rowB c t = countedB (threadAt c t)
+rowB c t = countedB (ownOf (threadAt c t))
 
 unfoldable pub rowDst : Control → ℕ → Height → ℕ → ℕ
-rowDst c t h dst = countedDst (c .settings .base) (threadAt c t) h dst
+rowDst c t h dst = countedDst (c .settings .base) (ownOf (threadAt c t)) h dst
 
 abbrev pub phaseOf : Control → ℕ → ℕ
-phaseOf c t = countedPhase (threadAt c t)
+phaseOf c t = countedPhase (ownOf (threadAt c t))
 
 -- ---- all of it
 

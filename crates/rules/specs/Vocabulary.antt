@@ -11,7 +11,6 @@ use Rattle.word.specs.declared.AddCounters.{AddCounters}
 use Rattle.control.specs.declared.Settings.{Settings}
 use Rattle.control.specs.declared.Control.{Control}
 use Rattle.rules.specs.declared.Reads.{Reads}
-use Rattle.rules.specs.declared.Sets.{Sets}
 
 -- the banks at the matrix pointers that an instruction needs
 pub data Needs : Type 0 where
@@ -33,6 +32,16 @@ pub data Move : Type 0 where
   SlotAndLast : ℕ → Move
   Set : SetCounters → Move
   Add : AddCounters → Move
+
+-- the rows and registers that it sets, and those that its clear unsets
+pub record Sets : Type 0 where
+  pub a : Span
+  pub b : Span
+  pub registers : Span
+
+pub record Unsets : Type 0 where
+  pub a : Span
+  pub b : Span
 
 pub record Meaning : Type 0 where
   -- 4: its mode is undefined

@@ -1,125 +1,97 @@
-// Every instruction once in each of: the rules 4 to 7, what is read, set and unset, and the record after it.
-use crate::Reads;
-use crate::Sets;
-use crate::Unsets;
+// Every instruction once in each of: the rules 4 to 7, and the record after it, by its core.
 use crate::Verdict;
 use crate::counters;
+use crate::legacy;
 use crate::multiply;
 use crate::scalar;
 use crate::shifts;
 use crate::vocabulary;
-use crate::zero_src;
-use control::Control;
+use control::Core;
+use control::Slot;
 use word::Clear;
 use word::Operands;
-use word::Refusal;
 ghost use mathlib.Core.Path.{_≡_};
-ghost use Rattle.rules.specs.After.{recordAfter};
-ghost use Rattle.rules.specs.Access.{readsOf, setsOf, unsetsOf};
+ghost use Prim.Native.Nat.{ℕ};
+ghost use Rattle.control.specs.Record.{threadAt, slotUsed};
+ghost use Rattle.control.specs.Halves.{Choice, joined};
+ghost use Rattle.rules.specs.After.{slotNumber, leavesRecord, recordAfter};
 ghost use Rattle.rules.specs.Rules.{operandRules, lowest, verdictAnswer, lowestAnswer};
 
-// Which of the rules 4 to 7 is broken first.
-pub fn judge_operands(c: Control, thread: u8, f: Operands) -> Verdict
-    ensures verdict { λ r. ⌜ r ≡ lowest (operandRules c thread f) ⌝ }
-    ensures number { λ r. ⌜ verdictAnswer r ≡ lowestAnswer (operandRules c thread f) ⌝ }
+// Which of the rules 4 to 7 is broken first. The address slots are any.
+pub fn judge_operands(k: Core, thread: u8, f: Operands) -> Verdict
+    ensures verdict { λ r. ⌜ ((s : ℕ → Choice) → r ≡ lowest (operandRules (joined k s) thread f)) ⌝ }
+    ensures number { λ r. ⌜ ((s : ℕ → Choice) → verdictAnswer r ≡ lowestAnswer (operandRules (joined k s) thread f)) ⌝ }
 {
     match f {
-        Operands::Multiply(m) => multiply::judge_multiply(c, thread, m),
-        Operands::Legacy(_) => {
-            vocabulary::refused_if(!vocabulary::both_owned(c), Refusal::BankOwner)
-        }
-        Operands::SetCounters(s) => vocabulary::refused_if(1 <= s.mode, Refusal::UndefinedMode),
-        Operands::AddCounters(s) => vocabulary::refused_if(1 <= s.mode, Refusal::UndefinedMode),
+        Operands::Multiply(m) => multiply::judge_multiply(k, thread, m),
+        Operands::Legacy(_) => legacy::judge_legacy(k),
+        Operands::SetCounters(s) => counters::judge_counters(s.mode),
+        Operands::AddCounters(s) => counters::judge_counters(s.mode),
         Operands::ZeroSrc(_) => Verdict::Done,
-        Operands::ShiftA(mode) => shifts::judge_shift_a(c, mode),
-        Operands::ShiftB(_) => shifts::judge_shift_b(c),
+        Operands::ShiftA(mode) => shifts::judge_shift_a(k, mode),
+        Operands::ShiftB(_) => shifts::judge_shift_b(k),
         Operands::NoEffect => Verdict::Done,
         Operands::Scalar(s) => scalar::judge_scalar(s),
     }
 }
 
-// The rows and registers that are read.
-pub fn reads_of(c: Control, thread: u8, f: Operands) -> Reads
-    ensures { λ r. ⌜ r ≡ readsOf c thread f ⌝ }
+// The number that names its slot; 0 where it has none.
+pub fn slot_number(f: Operands) -> u32
+    ensures { λ r. ⌜ r ≡ slotNumber f ⌝ }
 {
     match f {
-        Operands::Multiply(m) => multiply::multiply_reads(c, thread, m),
-        Operands::Legacy(_) => vocabulary::no_reads(),
-        Operands::SetCounters(_) => vocabulary::no_reads(),
-        Operands::AddCounters(_) => vocabulary::no_reads(),
-        Operands::ZeroSrc(_) => vocabulary::no_reads(),
-        Operands::ShiftA(_) => shifts::shift_a_reads(c),
-        Operands::ShiftB(s) => shifts::shift_b_reads(c, thread, s),
-        Operands::NoEffect => vocabulary::no_reads(),
-        Operands::Scalar(s) => scalar::scalar_reads(c, thread, s),
+        Operands::Multiply(m) => m.slot,
+        Operands::Legacy(l) => l.slot,
+        Operands::SetCounters(_) => 0,
+        Operands::AddCounters(_) => 0,
+        Operands::ZeroSrc(_) => 0,
+        Operands::ShiftA(_) => 0,
+        Operands::ShiftB(s) => s.slot,
+        Operands::NoEffect => 0,
+        Operands::Scalar(_) => 0,
     }
 }
 
-// Those that are set.
-pub fn sets_of(c: Control, thread: u8, f: Operands) -> Sets
-    ensures { λ r. ⌜ r ≡ setsOf c thread f ⌝ }
-{
-    match f {
-        Operands::Multiply(_) => vocabulary::no_sets(),
-        Operands::Legacy(_) => vocabulary::no_sets(),
-        Operands::SetCounters(_) => vocabulary::no_sets(),
-        Operands::AddCounters(_) => vocabulary::no_sets(),
-        Operands::ZeroSrc(z) => zero_src::zero_sets(c, z),
-        Operands::ShiftA(_) => shifts::shift_a_sets(c),
-        Operands::ShiftB(_) => vocabulary::no_sets(),
-        Operands::NoEffect => vocabulary::no_sets(),
-        Operands::Scalar(s) => scalar::scalar_sets(c, thread, s),
-    }
-}
-
-// Those that are unset by the clear.
-pub fn unsets_of(c: Control, f: Operands) -> Unsets
-    ensures { λ r. ⌜ r ≡ unsetsOf c f ⌝ }
+// The core of the record after it; `slot` is the one that its number names.
+pub fn core_after(k: Core, thread: u8, slot: Slot, f: Operands) -> Core
+    ensures { λ r. ⌜ ((s : ℕ → Choice) → slot ≡ slotUsed (threadAt (joined k s) thread) (slotNumber f)
+        → joined r s ≡ recordAfter (joined k s) thread f) ⌝ }
 {
     match f {
         Operands::Multiply(m) => {
             let clear = m.clear;
-            vocabulary::clear_unsets(c, clear)
+            vocabulary::moved(k, thread, clear, slot, true)
         }
         Operands::Legacy(l) => {
             let clear = l.clear;
-            vocabulary::clear_unsets(c, clear)
+            vocabulary::moved(k, thread, clear, slot, false)
         }
-        Operands::SetCounters(s) => {
-            let clear = s.clear;
-            vocabulary::clear_unsets(c, clear)
-        }
-        Operands::AddCounters(_) => vocabulary::no_unsets(),
-        Operands::ZeroSrc(_) => vocabulary::no_unsets(),
-        Operands::ShiftA(_) => vocabulary::no_unsets(),
-        Operands::ShiftB(_) => vocabulary::no_unsets(),
-        Operands::NoEffect => vocabulary::no_unsets(),
-        Operands::Scalar(_) => vocabulary::no_unsets(),
-    }
-}
-
-// The control record after it.
-pub fn record_after(c: Control, thread: u8, f: Operands) -> Control
-    ensures { λ r. ⌜ r ≡ recordAfter c thread f ⌝ }
-{
-    match f {
-        Operands::Multiply(m) => {
-            let clear = m.clear;
-            vocabulary::moved(c, thread, clear, m.slot, true)
-        }
-        Operands::Legacy(l) => {
-            let clear = l.clear;
-            vocabulary::moved(c, thread, clear, l.slot, false)
-        }
-        Operands::SetCounters(s) => counters::set_after(c, thread, s),
-        Operands::AddCounters(s) => control::add_counters(c, thread, s.d, s.b, s.a),
-        Operands::ZeroSrc(_) => c,
-        Operands::ShiftA(_) => c,
-        Operands::ShiftB(s) => {
+        Operands::SetCounters(s) => counters::set_after(k, thread, s),
+        Operands::AddCounters(s) => counters::add_after(k, thread, s),
+        Operands::ZeroSrc(_) => k,
+        Operands::ShiftA(_) => k,
+        Operands::ShiftB(_) => {
             let clear = Clear { a: false, b: false };
-            vocabulary::moved(c, thread, clear, s.slot, false)
+            vocabulary::moved(k, thread, clear, slot, false)
         }
-        Operands::NoEffect => c,
-        Operands::Scalar(_) => c,
+        Operands::NoEffect => k,
+        Operands::Scalar(_) => k,
+    }
+}
+
+// Whether it leaves the record as it is, whatever this holds.
+pub fn leaves_record(f: Operands) -> bool
+    ensures { λ r. ⌜ r ≡ leavesRecord f ⌝ }
+{
+    match f {
+        Operands::Multiply(_) => false,
+        Operands::Legacy(_) => false,
+        Operands::SetCounters(_) => false,
+        Operands::AddCounters(_) => false,
+        Operands::ZeroSrc(_) => true,
+        Operands::ShiftA(_) => true,
+        Operands::ShiftB(_) => false,
+        Operands::NoEffect => true,
+        Operands::Scalar(_) => true,
     }
 }

@@ -3,21 +3,22 @@ use crate::Reads;
 use crate::Verdict;
 use crate::vocabulary;
 use cells::Span;
-use control::Control;
+use control::Core;
+use control::Own;
 use control::Settings;
-use control::Thread;
 use word::Height;
 use word::Multiply;
 use word::Refusal;
 ghost use mathlib.Core.Path.{_≡_};
-ghost use Prim.Native.Nat.{_+_};
+ghost use Prim.Native.Nat.{ℕ, _+_};
 ghost use lib.Dec.{leb};
 ghost use Rattle.cells.specs.Places.{rowCount};
 ghost use Rattle.word.specs.declared.Operands.the-variants as operands;
 ghost use Rattle.control.specs.Record.{widthOf};
+ghost use Rattle.control.specs.Halves.{Choice, joined};
 ghost use Rattle.rules.specs.Multiply.{heightRows, multiplyModes, modelled, countedA, countedB, heightMask, countedDst, countedPhase};
 ghost use Rattle.rules.specs.Access.{readsOf};
-ghost use Rattle.rules.specs.Rules.{operandRules, lowest};
+ghost use Rattle.rules.specs.Rules.{operandRules, lowest, verdictAnswer, lowestAnswer};
 
 pub fn height_rows(height: Height) -> u32
     ensures { λ r. ⌜ r ≡ heightRows height ⌝ }
@@ -44,15 +45,15 @@ fn is_modelled(s: Settings) -> bool
     !s.int8 & !s.fp16a & ((s.format == 2) | (s.fp32 & (s.format == 6)))
 }
 
-// ---- the rows, by the counters of a thread
+// ---- the rows, by a thread's own numbers
 
-pub fn row_a(x: Thread) -> u8
+pub fn row_a(x: Own) -> u8
     ensures { λ r. ⌜ r ≡ countedA x ⌝ }
 {
     x.a.at.0 & 0x30
 }
 
-pub fn row_b(x: Thread) -> u8
+pub fn row_b(x: Own) -> u8
     ensures { λ r. ⌜ r ≡ countedB x ⌝ }
 {
     x.b.at.0 & 0x38
@@ -74,7 +75,7 @@ fn height_mask(height: Height) -> u32
 }
 
 // The first Dst row: the sum is masked, and never taken modulo 512.
-pub fn row_dst(base: u16, x: Thread, height: Height, dst: u32) -> u32
+pub fn row_dst(base: u16, x: Own, height: Height, dst: u32) -> u32
     ensures { λ r. ⌜ r ≡ countedDst base x height dst ⌝ }
 {
     let sum = dst_sum(dst, x.offset, x.dst.at.0, base);
@@ -82,30 +83,30 @@ pub fn row_dst(base: u16, x: Thread, height: Height, dst: u32) -> u32
     (sum & mask as u64) as u32
 }
 
-pub fn phase_of(x: Thread) -> u8
+pub fn phase_of(x: Own) -> u8
     ensures { λ r. ⌜ r ≡ countedPhase x ⌝ }
 {
     (x.phase % 4 + x.fidelity % 4) % 4
 }
 
-// ---- all of it
+// ---- all of it. The address slots are any
 
-pub(crate) fn multiply_reads(c: Control, thread: u8, m: Multiply) -> Reads
-    ensures { λ r. ⌜ r ≡ readsOf c thread (operands.Multiply m) ⌝ }
+pub fn multiply_reads(k: Core, thread: u8, m: Multiply) -> Reads
+    ensures { λ r. ⌜ ((s : ℕ → Choice) → r ≡ readsOf (joined k s) thread (operands.Multiply m)) ⌝ }
 {
-    let x = control::thread_at(c, thread);
+    let x = control::own_at(k, thread);
     let height = m.height;
     let count = height_rows(height);
     let a = Span {
-        first: cells::bank_row(c.a.matrix, row_a(x)),
+        first: cells::bank_row(k.a.matrix, row_a(x)),
         count: 16,
     };
     let b = Span {
-        first: cells::bank_row(c.b.matrix, row_b(x)),
+        first: cells::bank_row(k.b.matrix, row_b(x)),
         count,
     };
     let dst = Span {
-        first: row_dst(c.settings.base, x, height, m.dst),
+        first: row_dst(k.settings.base, x, height, m.dst),
         count,
     };
     let mut r = vocabulary::no_reads();
@@ -125,19 +126,20 @@ fn past_end(s: Settings, row: u32) -> bool
     cells::row_count(control::width_of(s)) <= row
 }
 
-pub(crate) fn judge_multiply(c: Control, thread: u8, m: Multiply) -> Verdict
-    ensures { λ r. ⌜ r ≡ lowest (operandRules c thread (operands.Multiply m)) ⌝ }
+pub fn judge_multiply(k: Core, thread: u8, m: Multiply) -> Verdict
+    ensures verdict { λ r. ⌜ ((s : ℕ → Choice) → r ≡ lowest (operandRules (joined k s) thread (operands.Multiply m))) ⌝ }
+    ensures number { λ r. ⌜ ((s : ℕ → Choice) → verdictAnswer r ≡ lowestAnswer (operandRules (joined k s) thread (operands.Multiply m))) ⌝ }
 {
     let height = m.height;
     if multiply_modes(height) <= m.mode {
         return Verdict::Refused(Refusal::UndefinedMode);
     }
-    let s = c.settings;
-    if is_modelled(s) {
-        if vocabulary::both_owned(c) {
-            let x = control::thread_at(c, thread);
-            let row = row_dst(c.settings.base, x, height, m.dst);
-            return vocabulary::refused_if(past_end(s, row), Refusal::DstRow);
+    let settings = k.settings;
+    if is_modelled(settings) {
+        if vocabulary::both_owned(k) {
+            let x = control::own_at(k, thread);
+            let row = row_dst(k.settings.base, x, height, m.dst);
+            return vocabulary::refused_if(past_end(settings, row), Refusal::DstRow);
         }
         return Verdict::Refused(Refusal::BankOwner);
     }

@@ -1,36 +1,39 @@
 // SHIFTXA, SHIFTXB: all but the numbers.
 use crate::Reads;
-use crate::Sets;
 use crate::Verdict;
 use crate::vocabulary;
 use cells::Span;
-use control::Control;
+use control::Core;
 use word::Refusal;
 use word::ShiftB;
 ghost use mathlib.Core.Path.{_≡_};
 ghost use mathlib.Core.Bool.{not};
+ghost use mathlib.Core.List.{[], _∷_};
+ghost use Prim.Native.Nat.{ℕ};
 ghost use Rattle.word.specs.declared.Operands.the-variants as operands;
 ghost use Rattle.control.specs.Record.{matrixOwns};
+ghost use Rattle.control.specs.Halves.{Choice, joined};
 ghost use Rattle.rules.specs.Shifts.{shiftedA, shiftedB};
-ghost use Rattle.rules.specs.Access.{readsOf, setsOf};
-ghost use Rattle.rules.specs.Rules.{operandRules, lowest, refusedIf};
+ghost use Rattle.rules.specs.Access.{readsOf};
+ghost use Rattle.rules.specs.Rules.{operandRules, lowest, _when_, refusedIf, verdictAnswer, lowestAnswer};
 
 // ---- SHIFTXA
 
-pub fn shifted_a(c: Control) -> Span
-    ensures { λ r. ⌜ r ≡ shiftedA c ⌝ }
+// The address slots are any, here and below.
+pub fn shifted_a(k: Core) -> Span
+    ensures { λ r. ⌜ ((s : ℕ → Choice) → r ≡ shiftedA (joined k s)) ⌝ }
 {
     Span {
-        first: cells::bank_row(c.a.matrix, 0),
+        first: cells::bank_row(k.a.matrix, 0),
         count: 16,
     }
 }
 
-pub(crate) fn shift_a_reads(c: Control) -> Reads
-    ensures { λ r. ⌜ r ≡ readsOf c 0 (operands.ShiftA 0) ⌝ }
+pub fn shift_a_reads(k: Core) -> Reads
+    ensures { λ r. ⌜ ((s : ℕ → Choice) → r ≡ readsOf (joined k s) 0 (operands.ShiftA 0)) ⌝ }
 {
     let a = Span {
-        first: cells::bank_row(c.a.matrix, c.last),
+        first: cells::bank_row(k.a.matrix, k.last),
         count: 16,
     };
     let mut r = vocabulary::no_reads();
@@ -38,40 +41,33 @@ pub(crate) fn shift_a_reads(c: Control) -> Reads
     r
 }
 
-pub(crate) fn shift_a_sets(c: Control) -> Sets
-    ensures { λ r. ⌜ r ≡ setsOf c 0 (operands.ShiftA 0) ⌝ }
-{
-    let a = shifted_a(c);
-    let mut r = vocabulary::no_sets();
-    r.a = a;
-    r
-}
-
-pub(crate) fn judge_shift_a(c: Control, mode: u32) -> Verdict
-    ensures { λ r. ⌜ r ≡ lowest (operandRules c 0 (operands.ShiftA mode)) ⌝ }
+pub fn judge_shift_a(k: Core, mode: u32) -> Verdict
+    ensures verdict { λ r. ⌜ ((s : ℕ → Choice) → r ≡ lowest (operandRules (joined k s) 0 (operands.ShiftA mode))) ⌝ }
+    ensures number { λ r. ⌜ ((s : ℕ → Choice) → verdictAnswer r ≡ lowestAnswer (operandRules (joined k s) 0 (operands.ShiftA mode))) ⌝ }
 {
     if mode < 2 {
         return Verdict::Refused(Refusal::UndefinedMode);
     }
-    let a = c.a;
+    let a = k.a;
     vocabulary::refused_if(!control::matrix_owns(a), Refusal::BankOwner)
 }
 
 // ---- SHIFTXB
 
-pub fn shifted_b(c: Control, thread: u8, s: ShiftB) -> u32
-    ensures { λ r. ⌜ r ≡ shiftedB c thread s ⌝ }
+pub fn shifted_b(k: Core, thread: u8, f: ShiftB) -> u32
+    ensures { λ r. ⌜ ((s : ℕ → Choice) → r ≡ shiftedB (joined k s) thread f) ⌝ }
 {
-    let x = control::thread_at(c, thread);
-    let row = (s.row % cells::BANK_ROWS + x.b.at.0 as u32) % cells::BANK_ROWS;
-    c.b.matrix as u32 * cells::BANK_ROWS + row
+    let banks = k.b;
+    let x = control::own_at(k, thread);
+    let row = (f.row % cells::BANK_ROWS + x.b.at.0 as u32) % cells::BANK_ROWS;
+    banks.matrix as u32 * cells::BANK_ROWS + row
 }
 
-pub(crate) fn shift_b_reads(c: Control, thread: u8, s: ShiftB) -> Reads
-    ensures { λ r. ⌜ r ≡ readsOf c thread (operands.ShiftB s) ⌝ }
+pub fn shift_b_reads(k: Core, thread: u8, f: ShiftB) -> Reads
+    ensures { λ r. ⌜ ((s : ℕ → Choice) → r ≡ readsOf (joined k s) thread (operands.ShiftB f)) ⌝ }
 {
     let b = Span {
-        first: shifted_b(c, thread, s),
+        first: shifted_b(k, thread, f),
         count: 1,
     };
     let mut r = vocabulary::no_reads();
@@ -79,9 +75,10 @@ pub(crate) fn shift_b_reads(c: Control, thread: u8, s: ShiftB) -> Reads
     r
 }
 
-pub(crate) fn judge_shift_b(c: Control) -> Verdict
-    ensures { λ r. ⌜ r ≡ refusedIf (not (matrixOwns (c .b))) Refusal.BankOwner ⌝ }
+pub fn judge_shift_b(k: Core) -> Verdict
+    ensures verdict { λ r. ⌜ r ≡ refusedIf (not (matrixOwns (k .b))) Refusal.BankOwner ⌝ }
+    ensures number { λ r. ⌜ verdictAnswer r ≡ lowestAnswer ((Refusal.BankOwner when not (matrixOwns (k .b))) ∷ []) ⌝ }
 {
-    let b = c.b;
+    let b = k.b;
     vocabulary::refused_if(!control::matrix_owns(b), Refusal::BankOwner)
 }

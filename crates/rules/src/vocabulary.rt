@@ -1,23 +1,23 @@
-// The words that the classes share: nothing read, set or unset; a rule alone; clear, slot and the last SrcA row.
+// The words that the classes share: nothing read; a rule alone; clear, slot and the last SrcA row.
 use crate::Reads;
-use crate::Sets;
-use crate::Unsets;
 use crate::Verdict;
 use crate::multiply;
-use cells::Span;
-use control::Banks;
-use control::Control;
-use control::Thread;
+use control::Core;
+use control::Own;
+use control::Slot;
 use word::Clear;
 use word::Refusal;
 ghost use mathlib.Core.Path.{_≡_};
 ghost use mathlib.Core.Bool.{cond};
 ghost use mathlib.Core.List.{[], _∷_};
+ghost use Prim.Native.Nat.{ℕ};
+ghost use Rattle.control.specs.Record.{threadAt, slotUsed};
 ghost use Rattle.control.specs.Change.{clearBanks};
-ghost use Rattle.rules.specs.Vocabulary.{Slot, SlotAndLast, noReads, noSets};
+ghost use Rattle.control.specs.Halves.{Choice, joined};
+ghost use Rattle.rules.specs.Vocabulary as move;
+ghost use Rattle.rules.specs.Vocabulary.{noReads};
 ghost use Rattle.rules.specs.Multiply.{countedA};
 ghost use Rattle.rules.specs.After.{moved};
-ghost use Rattle.rules.specs.Access.{givenBack, clearUnsets, noUnsets};
 ghost use Rattle.rules.specs.Rules.{bothOwned, _when_, refusedIf, verdictAnswer, lowestAnswer};
 
 pub(crate) fn no_reads() -> Reads
@@ -33,24 +33,6 @@ pub(crate) fn no_reads() -> Reads
     }
 }
 
-pub(crate) fn no_sets() -> Sets
-    ensures { λ r. ⌜ r ≡ noSets ⌝ }
-{
-    let n = cells::no_span();
-    Sets {
-        a: n,
-        b: n,
-        registers: n,
-    }
-}
-
-pub(crate) fn no_unsets() -> Unsets
-    ensures { λ r. ⌜ r ≡ noUnsets ⌝ }
-{
-    let n = cells::no_span();
-    Unsets { a: n, b: n }
-}
-
 // ---- what is judged
 
 // One rule alone.
@@ -64,40 +46,29 @@ pub fn refused_if(bad: bool, refusal: Refusal) -> Verdict
     Verdict::Done
 }
 
-pub(crate) fn both_owned(c: Control) -> bool
-    ensures { λ r. ⌜ r ≡ bothOwned c ⌝ }
+// The address slots are any, here and below.
+pub(crate) fn both_owned(k: Core) -> bool
+    ensures { λ r. ⌜ ((s : ℕ → Choice) → r ≡ bothOwned (joined k s)) ⌝ }
 {
-    let a = c.a;
-    let b = c.b;
+    let a = k.a;
+    let b = k.b;
     control::matrix_owns(a) & control::matrix_owns(b)
-}
-
-// ---- what a clear unsets
-
-// The bank that it gives back, the one at the matrix pointer.
-fn given_back(b: Banks, on: bool) -> Span
-    ensures { λ r. ⌜ r ≡ givenBack b on ⌝ }
-{
-    if on {
-        return cells::bank_span(b.matrix);
-    }
-    cells::no_span()
-}
-
-pub(crate) fn clear_unsets(c: Control, clear: Clear) -> Unsets
-    ensures { λ r. ⌜ r ≡ clearUnsets c clear ⌝ }
-{
-    let a = c.a;
-    let b = c.b;
-    Unsets {
-        a: given_back(a, clear.a),
-        b: given_back(b, clear.b),
-    }
 }
 
 // ---- what becomes of the record
 
-fn last_row(counted: bool, x: Thread, last: u8) -> u8
+pub(crate) fn clear_banks(k: Core, clear: Clear) -> Core
+    ensures { λ r. ⌜ ((s : ℕ → Choice) → joined r s ≡ clearBanks (joined k s) clear) ⌝ }
+{
+    let mut r = k;
+    let a = k.a;
+    let b = k.b;
+    r.a = control::give_back_if(a, clear.a);
+    r.b = control::give_back_if(b, clear.b);
+    r
+}
+
+fn last_row(counted: bool, x: Own, last: u8) -> u8
     ensures { λ r. ⌜ r ≡ cond counted (countedA x) last ⌝ }
 {
     if counted {
@@ -106,23 +77,15 @@ fn last_row(counted: bool, x: Thread, last: u8) -> u8
     last
 }
 
-// Clear, then the slot; `last` says whether the SrcA row before the slot acts becomes the last one.
-pub(crate) fn moved(mut c: Control, thread: u8, clear: Clear, slot: u32, last: bool) -> Control
-    ensures { λ r. ⌜ r ≡ moved (cond last (SlotAndLast slot) (Slot slot)) (clearBanks c clear) thread ⌝ }
+// Clear, then the slot that the number n names; `last` says whether the SrcA row before the slot acts becomes the last one.
+pub(crate) fn moved(k: Core, thread: u8, clear: Clear, slot: Slot, last: bool) -> Core
+    ensures { λ r. ⌜ ((s : ℕ → Choice) (n : ℕ) → slot ≡ slotUsed (threadAt (joined k s) thread) n
+        → joined r s ≡ moved (cond last (move.SlotAndLast n) (move.Slot n)) (clearBanks (joined k s) clear) thread) ⌝ }
 {
-    let a = c.a;
-    let b = c.b;
-    c.a = control::give_back_if(a, clear.a);
-    c.b = control::give_back_if(b, clear.b);
-    let i = thread as usize;
-    if i < 3 {
-        let x = c.threads[i];
-        let s = control::slot_used(x, slot);
-        let after = control::apply_slot(x, s);
-        c.threads[i] = after;
-        c.last = last_row(last, x, c.last);
-        return c;
-    }
-    c.last = last_row(last, control::start_thread(), c.last);
-    c
+    let cleared = clear_banks(k, clear);
+    let x = control::own_at(cleared, thread);
+    let after = control::apply_slot(x, slot);
+    let mut r = control::with_own(cleared, thread, after);
+    r.last = last_row(last, x, cleared.last);
+    r
 }

@@ -1,27 +1,41 @@
 -- The run's walk, a field at a time, and its answer in each of its cases. Assumes nothing.
-use mathlib.Core.Path.{_≡_, refl, sym, ap, _∙_}
+use mathlib.Core.Path.{_≡_, refl, sym, ap, subst, _∙_}
 use mathlib.Core.Bool.{true, false}
 use mathlib.Core.List.{List, [], _∷_}
 use Prim.Native.Nat.{ℕ, _+_, _≤_, _<_}
 use native.Mathlib.Omega.{arith}
 use lib.ListN.{length}
 use Rattle.cells.specs.State.{State, sized}
-use Rattle.cells.proofs.Sizes.{Sizes}
+use Rattle.cells.specs.Layout.{threadCount}
+use Rattle.cells.proofs.Sizes.{Sizes, sized-of}
+use Rattle.word.specs.Word.{readWord}
+use Rattle.word.specs.declared.Operands.{Operands}
+use Rattle.word.specs.declared.Read.{Read}
+use Rattle.word.specs.declared.Read.the-variants as read
 use Rattle.word.specs.declared.Refusal.{Refusal}
 use Rattle.word.specs.declared.Refusal.the-variants.{StateLength, StepRefused}
 use Rattle.control.specs.declared.Control.{Control}
 use Rattle.control.specs.Record.{start}
+use Rattle.control.specs.Range.{inRange}
+use Rattle.control.proofs.StaysInRange.{start-kept}
+use Rattle.rules.specs.Rules.{operandRules, lowest}
+use Rattle.rules.specs.After.{recordAfter}
+use Rattle.rules.proofs.Reading.{judged-refused}
 use Rattle.rules.specs.declared.Verdict.{Verdict}
 use Rattle.rules.specs.declared.Verdict.the-variants as verdict
-use Rattle.step.specs.Step.{verdictOf, steppedOf, stateOf}
+use Rattle.step.specs.Inside.{acted}
+use Rattle.step.specs.Step.{ifDone, verdictOf, steppedOf, stateOf}
 use Rattle.step.specs.declared.Stepped.{Stepped}
+use Rattle.step.proofs.Verdicts as Step
 use Rattle.job.specs.Fields.{fieldAt, fieldsFrom}
 use Rattle.job.specs.declared.Kind.{Kind}
 use Rattle.job.specs.declared.Kind.the-variants as kind
 use Rattle.job.specs.declared.Field.{Field}
+use Rattle.job.specs.Range.{InRange}
+use Rattle.job.proofs.Shaped.{Sound, sound-at}
 use Rattle.job.proofs.Walk.{next-after, Reached, reached-first, reached-end, reached-stop, reached-on}
 use Rattle.walk.specs.FieldRecord.{fieldControl, issueOf}
-use Rattle.walk.proofs.RecordKept.{issue-most}
+use Rattle.walk.proofs.RecordKept.{control-kept, issue-most}
 use Rattle.precheck.specs.Check.{precheckOf}
 use Rattle.precheck.specs.declared.Checked.the-variants as checked
 use Rattle.run.specs.Perform.{performed, controlOn, stepVerdict}
@@ -79,11 +93,13 @@ walk job fs h = execute job fs (h .control) (h .lent) (h .count)
 
 pub record Running (job : List ℕ) (s₀ : State) (c : Control) (at n : ℕ) (s : State) : Type 0 where
   pub reached : Reached (walk job) job 0 (hand start s₀ 0) at (hand c s n)
+  pub range : inRange c ≡ true
   pub size : Sizes s
   pub few : n ≤ at
 
 pub running-first : (job : List ℕ) (s : State) (c : Control) → Sizes s → c ≡ start → Running job s c 0 0 s
-running-first job s c z e = record { reached = rw e (reached-first (walk job) job 0 (hand start s 0)); size = z; few = omega arith }
+running-first job s c z e =
+    record { reached = rw e (reached-first (walk job) job 0 (hand start s 0)); range = ap inRange e ∙ start-kept; size = z; few = omega arith }
 
 -- what the walk answers and leaves
 abbrev Left : List ℕ → State → Outcome → State → Type 0
@@ -104,6 +120,8 @@ module _ (job : List ℕ) (s₀ : State) (c : Control) (at n : ℕ) (s : State) 
         record {
           reached = reached-on (walk job) job (t .reached) f h e (hand c′ s′ n′)
               (rw (ce, se, i, ← q) (execute-next job f (fieldsFrom job (f .next)) c s n (rw q v)));
+          range = ap inRange (ce ∙ done-control job c (f .place) k s v ∙ ap (fieldControl job c (f .place)) (sym q))
+              ∙ control-kept job c f (t .range) (subst (Sound job) (sym e) (sound-at job at h));
           size = rw se (performed-sizes job c (f .place) k s (t .size));
           few = omega (arith, i, issue-most k, t .few, next-after job at f h e);
         }
@@ -113,23 +131,38 @@ module _ (job : List ℕ) (s₀ : State) (c : Control) (at n : ℕ) (s : State) 
         left job s₀ (Refused StepRefused (f .place)) s′
         (rw se (reached-stop (walk job) job (t .reached) f h e (ran (Refused StepRefused (f .place)) s) (execute-refused job f (fieldsFrom job (f .next)) c s n x (rw q v))))
 
-  -- f is an issue field there, r what the single step answers, s′ the numbers after it
-  module _ (f : Field) (h : at < length job) (e : f ≡ fieldAt job at) (g w : ℕ) (q : f .kind ≡ kind.Issue g w) (r : Stepped) (s′ : State) (p : r ≡ steppedOf c g w s) (se : s′ ≡ stateOf c g w s) where
-    told : (v : Verdict) → r .verdict ≡ v → verdictOf c g w s ≡ v
-    unfolding steppedOf
-    told v d = sym (ap (λ (x : Stepped). x .verdict) p) ∙ d
+  -- f is an issue field there
+  module _ (f : Field) (h : at < length job) (e : f ≡ fieldAt job at) (g w : ℕ) (q : f .kind ≡ kind.Issue g w) where
+    thread : g < threadCount
+    thread = subst InRange q (subst (Sound job) (sym e) (sound-at job at h) .range)
 
-    stays : (x : Refusal) → verdictOf c g w s ≡ verdict.Refused x → s′ ≡ s
-    unfolding stateOf
-    stays x v = se ∙ rw v
+    size : sized s ≡ true
+    size = sized-of s (t .size)
 
-    pub step-on : r .verdict ≡ verdict.Done → Running job s₀ (r .control) (f .next) (n + 1) s′
-    unfolding stepVerdict controlOn performed
-    step-on d = turn-on f h e (kind.Issue g w) q (told verdict.Done d) (ap (λ (x : Stepped). x .control) p) se refl
+    -- the single step stops, or goes on with the record c′
+    stops : (x : Refusal) (s′ : State) → Step.Left c g w s (Step.stopped (verdict.Refused x) c) s′ → Left job s₀ (Refused StepRefused (f .place)) s′
+    unfolding stepVerdict steppedOf stateOf
+    stops x s′ l =
+        let v : verdictOf c g w s ≡ verdict.Refused x = sym (ap (λ (y : Stepped). y .verdict) (l .answer)) in
+        turn-stop f h e (kind.Issue g w) q x v s′ (l .state ∙ rw v)
 
-    pub step-stop : (x : Refusal) → r .verdict ≡ verdict.Refused x → Left job s₀ (Refused StepRefused (f .place)) s′
-    unfolding stepVerdict
-    step-stop x d = turn-stop f h e (kind.Issue g w) q x (told (verdict.Refused x) d) s′ (stays x (told (verdict.Refused x) d))
+    goes : (c′ : Control) (s′ : State) → Step.Left c g w s (Step.stopped verdict.Done c′) s′ → Running job s₀ c′ (f .next) (n + 1) s′
+    unfolding stepVerdict controlOn performed steppedOf
+    goes c′ s′ l =
+        turn-on f h e (kind.Issue g w) q (sym (ap (λ (y : Stepped). y .verdict) (l .answer))) (ap (λ (y : Stepped). y .control) (l .answer)) (l .state) refl
+
+    -- its word is not read
+    pub read-stop : (r : Read) → r ≡ readWord w → (x : Refusal) → r ≡ read.Refused x → Left job s₀ (Refused StepRefused (f .place)) s
+    read-stop r p x d = stops x s (Step.by-rule c g w s size (t .range) thread x (judged-refused c g w x (sym p ∙ d)))
+
+    -- or its operands are performed: v is what they break, s′ what they leave
+    module _ (r : Read) (p : r ≡ readWord w) (o : Operands) (d : r ≡ read.Operands o) (v : Verdict) (told : v ≡ lowest (operandRules c g o)) (s′ : State)
+        (leaves : s′ ≡ ifDone v (acted c g o s) s) where
+      pub perform-stop : (x : Refusal) → v ≡ verdict.Refused x → Left job s₀ (Refused StepRefused (f .place)) s′
+      perform-stop x k = stops x s′ (Step.performed-refused c g w s size (t .range) thread o (sym p ∙ d) c refl v told s′ leaves x k)
+
+      pub perform-on : v ≡ verdict.Done → (c′ : Control) → c′ ≡ recordAfter c g o → Running job s₀ c′ (f .next) (n + 1) s′
+      perform-on k c′ after = goes c′ s′ (Step.performed-done c g w s size (t .range) thread o (sym p ∙ d) c refl v told s′ leaves k c′ after)
 
 -- ---- the run's answer
 

@@ -4,7 +4,7 @@ use cells::File;
 use cells::Part;
 use cells::Span;
 use cells::Width;
-use control::Control;
+use control::Core;
 use job::Write;
 ghost use mathlib.Core.Path.{_≡_};
 ghost use mathlib.Core.List.{List};
@@ -15,6 +15,7 @@ ghost use Rattle.cells.specs.Cells.{over, inSpan};
 ghost use Rattle.cells.specs.Parts.{placeIn, overPart};
 ghost use Rattle.cells.specs.Layout.{span, oneRegister};
 ghost use Rattle.cells.specs.State.{state, withSrcFile, srcFile};
+ghost use Rattle.control.specs.Halves.{Choice, joined};
 ghost use Rattle.job.specs.Kinds.{registerValue};
 ghost use Rattle.walk.specs.FieldRecord.{loadedRows};
 ghost use Rattle.run.specs.Perform.{valueFrom, loaded, written};
@@ -51,13 +52,13 @@ fn load_rows(width: Width, payload: &[u8], first: usize, count: u32, file: &mut 
     }
 }
 
-// Src loads go into the unpackers' bank. The other two files are any.
-fn load_src(payload: &[u8], c: Control, which: File, rows: Span, srca: &mut [u32], srcb: &mut [u32])
-    ensures { λ _. ⌜ ((d r : List ℕ) → state (now (srca .exit)) (now (srcb .exit)) d r
+// Src loads go into the unpackers' bank. The other two files and the address slots are any.
+fn load_src(payload: &[u8], k: Core, which: File, rows: Span, srca: &mut [u32], srcb: &mut [u32])
+    ensures { λ _. ⌜ ((s : ℕ → Choice) (d r : List ℕ) → state (now (srca .exit)) (now (srcb .exit)) d r
         ≡ withSrcFile (state (now (srca .entry)) (now (srcb .entry)) d r) which
-        (loaded Width.Bits32 (now (payload .entry)) (loadedRows c which rows) (srcFile (state (now (srca .entry)) (now (srcb .entry)) d r) which))) ⌝ }
+        (loaded Width.Bits32 (now (payload .entry)) (loadedRows (joined k s) which rows) (srcFile (state (now (srca .entry)) (now (srcb .entry)) d r) which))) ⌝ }
 {
-    let first = walk::first_loaded(c, which, rows);
+    let first = walk::first_loaded(k, which, rows);
     match which {
         File::A => load_rows(Width::Bits32, payload, first, rows.count, srca),
         File::B => load_rows(Width::Bits32, payload, first, rows.count, srcb),
@@ -74,20 +75,21 @@ fn load_register(payload: &[u8], thread: u8, r: u8, registers: &mut [u32])
     registers[i] = job::register_value(payload);
 }
 
+// The address slots are any.
 pub(crate) fn write(
     payload: &[u8],
-    c: Control,
+    k: Core,
     what: Write,
     srca: &mut [u32],
     srcb: &mut [u32],
     dst: &mut [u32],
     registers: &mut [u32],
 )
-    ensures { λ _. ⌜ state (now (srca .exit)) (now (srcb .exit)) (now (dst .exit)) (now (registers .exit))
-        ≡ written (now (payload .entry)) c what (state (now (srca .entry)) (now (srcb .entry)) (now (dst .entry)) (now (registers .entry))) ⌝ }
+    ensures { λ _. ⌜ ((s : ℕ → Choice) → state (now (srca .exit)) (now (srcb .exit)) (now (dst .exit)) (now (registers .exit))
+        ≡ written (now (payload .entry)) (joined k s) what (state (now (srca .entry)) (now (srcb .entry)) (now (dst .entry)) (now (registers .entry)))) ⌝ }
 {
     match what {
-        Write::LoadSrc { file, rows } => load_src(payload, c, file, rows, srca, srcb),
+        Write::LoadSrc { file, rows } => load_src(payload, k, file, rows, srca, srcb),
         Write::LoadDst { width, rows } => load_rows(
             width,
             payload,

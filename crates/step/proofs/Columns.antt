@@ -2,21 +2,20 @@
 use mathlib.Core.Path.{_≡_, sym, ap, _∙_}
 use mathlib.Core.Bool.{true, false, cond}
 use mathlib.Core.List.{List}
-use Prim.Native.Nat.{ℕ, _+_, _-_, _/_, _%_, _≤_}
+use Prim.Native.Nat.{ℕ, _+_, _-_, _/_, _%_, _≤_, _<_}
 use native.Mathlib.Omega.{arith}
 use lib.Dec.{eqb}
 use lib.ListN.{getD}
-use borrow.Author.Tests.{eqb-false}
+use borrow.Author.Tests.{eqb-false, le-leb, lt-leb}
 use Rattle.cells.specs.declared.layout.Span.{Span}
-use Rattle.cells.specs.Layout.{columnCount, srcNumbers, rowStart, cell, span}
+use Rattle.cells.specs.Layout.{columnCount, rowStart, cell, span}
 use Rattle.cells.specs.Cells.{over, between, overRows}
 use Rattle.cells.proofs.Cells.{split, over-values, rows-between}
 use Rattle.word.specs.declared.ShiftB.{ShiftB}
 use Rattle.control.specs.declared.Control.{Control}
-use Rattle.control.specs.Range.{inRange}
-use Rattle.control.proofs.Bounds.{shared-bounds}
 use Rattle.rules.specs.Shifts.{shiftedA, shiftedB}
 use Rattle.step.specs.Shifts.{rightward, leftward, shiftA, shiftB}
+use Rattle.step.specs.Inside.{insideA, insideB}
 
 -- ---- a column
 
@@ -50,18 +49,25 @@ pub found-a : (c : Control) {s : Span} {lo size gap : ℕ} → s ≡ shiftedA c 
 found-a c {lo = lo} e first count last =
     record { rows = record { first = rw e at first; end = ap (λ (n : ℕ). lo + n) (rw e at count) }; last = last }
 
--- both fit in their file
-pub record RoomA (lo hi gap : ℕ) : Type 0 where
+-- the places of whole rows, one after the other
+pub record RoomA (lo hi : ℕ) : Type 0 where
   pub first : lo % columnCount ≡ 0
   pub end : hi % columnCount ≡ 0
   pub order : lo ≤ hi
-  pub inside : hi + gap ≤ srcNumbers
 
-pub room-a : (c : Control) {lo hi gap : ℕ} → inRange c ≡ true → FoundA c lo hi gap → RoomA lo hi gap
+pub room-a : (c : Control) {lo hi gap : ℕ} → FoundA c lo hi gap → RoomA lo hi
 unfolding shiftedA
-room-a c h w =
-    let b = shared-bounds c h in
-    record { first = omega arith; end = omega arith; order = omega arith; inside = omega arith }
+room-a c w = record { first = omega (arith, w .rows .first); end = omega (arith, w .rows .first, w .rows .end); order = omega (arith, w .rows .end) }
+
+-- whether they are inside a file of n numbers
+module _ (c : Control) {lo hi gap n : ℕ} (w : FoundA c lo hi gap) where
+  pub inside-a : hi + gap ≤ n → insideA c n ≡ true
+  unfolding insideA
+  inside-a h = le-leb (rowStart (shiftedA c .first) + rowStart (shiftedA c .count) + rowStart (c .last)) n (omega (arith, h, w .rows .first, w .rows .end, w .last))
+
+  pub outside-a : n < hi + gap → insideA c n ≡ false
+  unfolding insideA
+  outside-a h = lt-leb (rowStart (shiftedA c .first) + rowStart (shiftedA c .count) + rowStart (c .last)) n (omega (arith, h, w .rows .first, w .rows .end, w .last))
 
 module _ (c : Control) (mode : ℕ) (l : List ℕ) {lo hi gap : ℕ} (w : FoundA c lo hi gap) where
   pub shifted-right : eqb mode 2 ≡ true → over (between lo hi) (λ p. cond (eqb (p % columnCount) 0) 0 (getD l (p + gap - 1) 0)) l ≡ shiftA c mode l
@@ -76,6 +82,15 @@ module _ (c : Control) (mode : ℕ) (l : List ℕ) {lo hi gap : ℕ} (w : FoundA
 
 pub found-b : (r : ℕ) {x lo : ℕ} → x ≡ r → lo ≡ rowStart x → At (span r 1) lo (lo + columnCount)
 found-b r e first = record { first = rw e at first; end = omega arith }
+
+module _ (c : Control) (t : ℕ) (x : ShiftB) {lo hi n : ℕ} (w : At (span (shiftedB c t x) 1) lo hi) where
+  pub inside-b : hi ≤ n → insideB c t x n ≡ true
+  unfolding insideB
+  inside-b h = le-leb (rowStart (shiftedB c t x) + columnCount) n (omega (arith, h, w .first, w .end))
+
+  pub outside-b : n < hi → insideB c t x n ≡ false
+  unfolding insideB
+  outside-b h = lt-leb (rowStart (shiftedB c t x) + columnCount) n (omega (arith, h, w .first, w .end))
 
 pub rotated : (c : Control) (t : ℕ) (x : ShiftB) (l : List ℕ) {lo hi : ℕ} → At (span (shiftedB c t x) 1) lo hi
     → (end : ℕ) → end ≡ cond (x .zero) 0 (getD l (cell (shiftedB c t x) 0) 0)

@@ -1,13 +1,14 @@
 // BITWOPDMAREG, SHIFTDMAREG, CMPDMAREG: the numbers.
+use rules::Verdict;
 use word::Operation;
+use word::Refusal;
 use word::Scalar;
 ghost use mathlib.Core.Path.{_≡_};
 ghost use mathlib.Core.Bool.{cond};
-ghost use Prim.Native.Nat.{_<_};
-ghost use lib.ListN.{length};
-ghost use Rattle.cells.specs.Layout.{threadCount, registerCount};
+ghost use lib.ListN.{getD};
 ghost use Rattle.word.specs.declared.Operands.the-variants as operands;
-ghost use Rattle.word.specs.Operands.{OperandsOk};
+ghost use Rattle.rules.specs.Rules.{undefinedMode, refusedIf};
+ghost use Rattle.step.specs.Step.{ifDone};
 ghost use Rattle.step.specs.Scalar.{bitwiseOf, shiftOf, compareOf, computed, operandB, scalar};
 
 fn bitwise(mode: u32, x: u32, y: u32) -> u32
@@ -62,25 +63,47 @@ fn compute(op: Operation, mode: u32, x: u32, y: u32) -> u32
     }
 }
 
+// A register past the end is 0.
+fn value_at(registers: &[u32], i: usize) -> u32
+    ensures { λ r. ⌜ r ≡ getD (now (registers .entry)) i 0 ⌝ }
+{
+    if i < registers.len() {
+        return registers[i];
+    }
+    0
+}
+
 fn operand_b(thread: u8, s: Scalar, registers: &[u32]) -> u32
-    requires { ⌜ (thread < threadCount) × OperandsOk (operands.Scalar s) × (length (now registers) ≡ registerCount) ⌝ }
     ensures { λ r. ⌜ r ≡ operandB thread s (now (registers .entry)) ⌝ }
 {
     if s.constant {
         return s.b as u32;
     }
-    let i = cells::register_at(thread, s.b) as usize;
-    registers[i]
+    value_at(registers, cells::register_at(thread, s.b) as usize)
 }
 
 pub fn scalar_unit(thread: u8, s: Scalar, registers: &mut [u32])
-    requires { ⌜ (thread < threadCount) × OperandsOk (operands.Scalar s) × (length (now registers) ≡ registerCount) ⌝ }
     ensures { λ _. ⌜ now (registers .exit) ≡ scalar thread s (now (registers .entry)) ⌝ }
 {
     let y = operand_b(thread, s, registers);
-    let i = cells::register_at(thread, s.a) as usize;
-    let x = registers[i];
+    let x = value_at(registers, cells::register_at(thread, s.a) as usize);
     let op = s.op;
     let k = cells::register_at(thread, s.result) as usize;
+    if registers.len() <= k {
+        return;
+    }
     registers[k] = compute(op, s.mode, x, y);
+}
+
+// Judged, and performed where its mode is defined.
+pub fn perform_scalar(thread: u8, s: Scalar, registers: &mut [u32]) -> Verdict
+    ensures verdict { λ r. ⌜ r ≡ refusedIf (undefinedMode (operands.Scalar s)) Refusal.UndefinedMode ⌝ }
+    ensures left { λ r. ⌜ now (registers .exit) ≡ ifDone r (scalar thread s (now (registers .entry))) (now (registers .entry)) ⌝ }
+{
+    let verdict = rules::scalar::judge_scalar(s);
+    let Verdict::Done = verdict else {
+        return verdict;
+    };
+    scalar_unit(thread, s, registers);
+    Verdict::Done
 }

@@ -1,15 +1,16 @@
 // SHIFTXA, SHIFTXB: the numbers.
-use control::Control;
+use control::Core;
 use word::ShiftB;
 ghost use mathlib.Core.Path.{_≡_};
-ghost use mathlib.Core.Bool.{true, cond};
-ghost use Prim.Native.Nat.{_+_, _-_, _%_, _≤_, _<_};
+ghost use mathlib.Core.Bool.{cond};
+ghost use Prim.Native.Nat.{ℕ, _+_, _-_, _%_, _≤_, _<_};
 ghost use lib.Dec.{eqb};
 ghost use lib.ListN.{length, getD};
-ghost use Rattle.cells.specs.Layout.{columnCount, threadCount, srcNumbers};
+ghost use Rattle.cells.specs.Layout.{columnCount, rowStart};
 ghost use Rattle.cells.specs.Cells.{over, between};
-ghost use Rattle.control.specs.Range.{inRange};
+ghost use Rattle.control.specs.Halves.{Choice, joined};
 ghost use Rattle.step.specs.Shifts.{shiftA, shiftB};
+ghost use Rattle.step.specs.Inside.{insideA, insideB};
 
 // One column to the left, from the places `gap` further on; `end` at column 15. A place is read before it is written.
 fn shift_left(lo: usize, hi: usize, gap: usize, end: u32, file: &mut [u32])
@@ -54,14 +55,25 @@ fn unless_first(p: usize, x: u32) -> u32
     x
 }
 
-pub fn shift_a(c: Control, mode: u32, srca: &mut [u32])
-    requires { ⌜ (inRange c ≡ true) × (length (now srca) ≡ srcNumbers) ⌝ }
-    ensures { λ _. ⌜ now (srca .exit) ≡ shiftA c mode (now (srca .entry)) ⌝ }
+// How far on the rows from the last SrcA row stand.
+fn gap_to(last: u8) -> usize
+    ensures { λ r. ⌜ (r ≡ rowStart last) × (r < 4096) ⌝ }
 {
-    let rows = rules::shifts::shifted_a(c);
+    cells::row_start(last as u32)
+}
+
+// The address slots are any, here and below.
+pub fn shift_a(k: Core, mode: u32, srca: &mut [u32])
+    ensures { λ _. ⌜ ((s : ℕ → Choice) → now (srca .exit)
+        ≡ cond (insideA (joined k s) (length (now (srca .entry)))) (shiftA (joined k s) mode (now (srca .entry))) (now (srca .entry))) ⌝ }
+{
+    let rows = rules::shifts::shifted_a(k);
     let lo = cells::row_start(rows.first);
     let hi = lo + cells::row_start(rows.count);
-    let gap = cells::row_start(c.last as u32);
+    let gap = gap_to(k.last);
+    if srca.len() < hi + gap {
+        return;
+    }
     if mode == 2 {
         shift_right(lo, hi, gap, srca);
     } else {
@@ -69,13 +81,16 @@ pub fn shift_a(c: Control, mode: u32, srca: &mut [u32])
     }
 }
 
-pub fn shift_b(c: Control, thread: u8, s: ShiftB, srcb: &mut [u32])
-    requires { ⌜ (inRange c ≡ true) × (thread < threadCount) × (length (now srcb) ≡ srcNumbers) ⌝ }
-    ensures { λ _. ⌜ now (srcb .exit) ≡ shiftB c thread s (now (srcb .entry)) ⌝ }
+pub fn shift_b(k: Core, thread: u8, f: ShiftB, srcb: &mut [u32])
+    ensures { λ _. ⌜ ((s : ℕ → Choice) → now (srcb .exit)
+        ≡ cond (insideB (joined k s) thread f (length (now (srcb .entry)))) (shiftB (joined k s) thread f (now (srcb .entry))) (now (srcb .entry))) ⌝ }
 {
-    let lo = cells::row_start(rules::shifts::shifted_b(c, thread, s));
+    let lo = cells::row_start(rules::shifts::shifted_b(k, thread, f));
     let hi = lo + cells::COLUMNS;
-    if s.zero {
+    if srcb.len() < hi {
+        return;
+    }
+    if f.zero {
         shift_left(lo, hi, 0, 0, srcb);
     } else {
         let first = srcb[lo];

@@ -1,17 +1,15 @@
 -- What the word reader answers, by the entry that is found; and what a word that is read has. Assumes nothing.
-use mathlib.Core.Path.{_≡_, refl, subst, _∙_}
+use mathlib.Core.Path.{_≡_, refl, _∙_}
 use mathlib.Core.Bool.{Bool, true, false, not}
 use mathlib.Core.Option.{Option, none, some}
 use Prim.Native.Nat.{ℕ}
 use native.Mathlib.Omega.{arith}
 use Rattle.word.specs.Table.{Row}
 use Rattle.word.specs.Entries.{entryOf, foundOf, masked}
-use Rattle.word.specs.Operands.{operandsOf, OperandsOk}
+use Rattle.word.specs.Operands.{operandsOf}
 use Rattle.word.specs.Word.{rowOf, unknownIn, strayIn, operandsIn, unknownOpcode, unnamedBit, wordOperands, readAs, readWord}
 use Rattle.word.specs.declared.table.Entry.{Entry}
 use Rattle.word.specs.declared.table.Found.the-variants.{At, Nothing}
-use Rattle.word.specs.declared.Class.{Class}
-use Rattle.word.specs.declared.Class.the-variants as class
 use Rattle.word.specs.declared.Operands.{Operands}
 use Rattle.word.specs.declared.Read.{Read}
 use Rattle.word.specs.declared.Read.the-variants as read
@@ -62,30 +60,3 @@ was-read w f e = go (unknownOpcode w) (unnamedBit w) refl refl e
     go true n p q e = absurd (let z : _≡_ {A = ℕ} 0 1 = cc in omega arith)
     go false true p q e = absurd (let z : _≡_ {A = ℕ} 0 1 = cc in omega arith)
     go false false p q e = record { known = p; named = q; operands = cc }
-
--- ---- the operands that are read are in their bits
-
-class-ok : (k : Class) (w : ℕ) → OperandsOk (operandsOf k w)
-class-ok class.Multiply8 w = tt
-class-ok class.Multiply4 w = tt
-class-ok class.Legacy w = tt
-class-ok class.SetCounters w = tt
-class-ok class.AddCounters w = tt
-class-ok class.ZeroSrc w = tt
-class-ok class.ShiftA w = tt
-class-ok class.ShiftB w = tt
-class-ok class.NoEffect w = tt
-class-ok class.Bitwise w = (omega arith, omega arith, omega arith)
-class-ok class.Shift w = (omega arith, omega arith, omega arith)
-class-ok class.Compare w = (omega arith, omega arith, omega arith)
-
-operands-ok : (w : ℕ) → OperandsOk (wordOperands w)
-unfolding wordOperands
-operands-ok w = go (rowOf w)
-  where
-    go : (o : Option Row) → OperandsOk (operandsIn o w)
-    go none = tt
-    go (some r) = class-ok (r .class) w
-
-pub ok-if-read : (w : ℕ) (f : Operands) → readWord w ≡ read.Operands f → OperandsOk f
-ok-if-read w f e = subst OperandsOk (was-read w f e .operands) (operands-ok w)

@@ -1,30 +1,36 @@
--- The table of twenty: the search in it, and its rule, proved once over the table. Assumes nothing.
+-- The table of twenty: an opcode that it lacks, and its rule, proved once over the table. Assumes nothing.
 use mathlib.Core.Path.{_≡_, refl, sym, ap, _∙_, subst}
 use mathlib.Core.Bool.{Bool, true, false, cond, _&&_, not}
 use mathlib.Core.List.{List, [], _∷_}
 use mathlib.Core.Option.{none, some}
 use Prim.Native.Nat.{ℕ, _+_, _-_, _%_, _/_, _^_, _<_}
-use native.Mathlib.Numerals.{add-one}
 use native.Mathlib.Omega.{arith}
 use lib.Dec.{eqb}
+use borrow.Author.Tests.{ne-eqb}
 use lib.Pow.{field, mod-mod-pow}
-use lib.ListN.{drop, length, getD}
-use lib.Seq.{drop-cons}
 use Rattle.cells.specs.Cells.{between}
 use Rattle.cells.specs.Tests.{below}
 use Rattle.cells.proofs.Tests.{below-of}
 use Rattle.cells.proofs.Cells.{split, both}
 use Rattle.word.specs.Bits.{bit, inRanges, someBelow}
-use Rattle.word.specs.Table.{Row, table, lookup, noRow}
+use Rattle.word.specs.Table.{Row, table, lookup}
 use Rattle.word.specs.Entries.{maskOf, masked}
 use Rattle.word.specs.Word.{opcodeOf, rowOf, strayAt, strayIn}
 use Rattle.word.proofs.Every.{Every}
 use Rattle.word.proofs.Masks.{mask-bits, some-same}
 
--- a turn of the search
-pub turn : (op i : ℕ) → i < length table
-    → lookup (drop i table) op ≡ cond (eqb (getD table i noRow .opcode) op) (some (getD table i noRow)) (lookup (drop (i + 1) table) op)
-turn op i h = rw (add-one, drop-cons table i noRow)
+-- ---- an opcode that no row has
+
+-- each row's opcode is another, the last row's outermost
+abbrev pub Away : List Row → ℕ → Type 0 → Type 0
+Away [] op T = T
+Away (r ∷ rs) op T = Away rs op (T × (op ≡ r .opcode → ⊥))
+
+pub away : (rs : List Row) (op : ℕ) (T : Type 0) → Away rs op T → T × (lookup rs op ≡ none)
+away [] op T h = (h, refl)
+away (r ∷ rs) op T h =
+    let others = away rs op (T × (op ≡ r .opcode → ⊥)) h in
+    (others .0 .0, rw (ne-eqb (r .opcode) op (λ q. others .0 .1 (sym q))) (others .1))
 
 -- ---- the rule of an entry: bit i of its mask is 1 just where the paper's ranges have bit i
 

@@ -1,6 +1,5 @@
 -- `walk::first_loaded` meets its contract. Assumes nothing.
 use native.Mathlib.Omega.{arith}
--- `walk::first_loaded` meets its contract. Assumes nothing.
 use borrow.Author.Needs.{needs}
 use Rattle.walk.proofs.first_loaded.Statement.{statement}
 use Rattle.walk.proofs.first_loaded.Tie as tie
@@ -24,7 +23,7 @@ add-result : tie.Need-add-result
 add-result c = search needs
 
 returns : tie.Need-returns
-returns c = (simp (c .before .before .banks-of .ensures), omega arith)
+returns c = (λ s. simp ((c .before .before .banks-of .ensures) s), omega arith)
 
 pub first-loaded-spec : {M : Type 1} → statement M
 first-loaded-spec =

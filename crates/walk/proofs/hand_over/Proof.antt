@@ -1,4 +1,5 @@
 -- `walk::hand_over` meets its contract. Assumes nothing.
+use Rattle.control.specs.Halves.{joined}
 use borrow.Author.Needs.{needs}
 use Rattle.walk.proofs.hand_over.Statement.{statement}
 use Rattle.walk.proofs.hand_over.Tie as tie
@@ -16,10 +17,12 @@ enum-told-2 : tie.Need-enum-told-2
 enum-told-2 c = search needs
 
 returns : tie.Need-returns
-returns c = simp ((c .before .before .hand-over .ensures), (c .before .before .before .banks-of .ensures), (c .enum-told .given .1))
+unfolding joined
+returns c = λ s. simp ((c .before .before .hand-over .ensures), (c .before .before .before .banks-of .ensures) s, (c .enum-told .given .1))
 
 returns-2 : tie.Need-returns-2
-returns-2 c = simp ((c .before .before .hand-over .ensures), (c .before .before .before .banks-of .ensures), (c .enum-told2 .given .1))
+unfolding joined
+returns-2 c = λ s. simp ((c .before .before .hand-over .ensures), (c .before .before .before .banks-of .ensures) s, (c .enum-told2 .given .1))
 
 pub hand-over-spec : {M : Type 1} → statement M
 hand-over-spec =

@@ -1,6 +1,6 @@
--- `control::change::apply_slot` meets its contract: each counter steps by its part of the slot. Assumes nothing.
-use borrow.Author.Needs.{needs}
+-- `control::change::apply_slot` meets its contract. Assumes nothing.
 use Rattle.control.specs.Change.{applySlot}
+use borrow.Author.Needs.{needs}
 use Rattle.control.proofs.change.apply_slot.Statement.{statement}
 use Rattle.control.proofs.change.apply_slot.Tie as tie
 
@@ -18,7 +18,7 @@ step-phase-requires c κs = search needs
 
 returns : tie.Need-returns
 unfolding applySlot
-returns c = simp (c .step-phase .ensures, c .before .step-src2 .ensures, c .before .before .step-src .ensures, c .before .before .before .step-dst .ensures)
+returns c = λ h. simp ((c .step-phase .ensures), (c .before .step-src2 .ensures), (c .before .before .step-src .ensures), (c .before .before .before .step-dst .ensures))
 
 pub apply-slot-spec : {M : Type 1} → statement M
 apply-slot-spec =

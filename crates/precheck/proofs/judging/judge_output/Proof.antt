@@ -1,5 +1,7 @@
 -- `precheck::judging::judge_output` meets its contract. Assumes nothing.
 use Rattle.rules.specs.Rules.{lowest}
+use Rattle.precheck.proofs.ByClass.{one-set}
+use denote.Ref.{now}
 use borrow.Author.Needs.{needs}
 use Rattle.precheck.proofs.judging.judge_output.Statement.{statement}
 use Rattle.precheck.proofs.judging.judge_output.Tie as tie
@@ -16,11 +18,11 @@ refused-if-requires c κs = search needs
 enum-known-output-2 : tie.Need-enum-known-output-2
 enum-known-output-2 c = search needs
 
-one-register-requires : tie.Need-one-register-requires
-one-register-requires c κs = search needs
+register-at-requires : tie.Need-register-at-requires
+register-at-requires c κs = search needs
 
-all-set-requires-2 : tie.Need-all-set-requires-2
-all-set-requires-2 c κs = search needs
+is-set-requires : tie.Need-is-set-requires
+is-set-requires c κs = search needs
 
 refused-if-requires-2 : tie.Need-refused-if-requires-2
 refused-if-requires-2 c κs = search needs
@@ -31,7 +33,7 @@ returns c = λ a b. simp ((c .refused-if .ensures .0), (c .before .all-set .ensu
 
 returns-2 : tie.Need-returns-2
 unfolding lowest
-returns-2 c = λ a b. simp ((c .refused-if2 .ensures .0), (c .before .all-set2 .ensures), (c .before .before .one-register .ensures), (c .before .before .before .before .before .output2 .given) .1)
+returns-2 c = λ a b. simp ((c .refused-if2 .ensures .0), (c .before .is-set .ensures), (c .before .before .register-at .ensures), one-set (now (c .before .before .before .before .before .before .before .before .args .registers)), (c .before .before .before .before .before .output2 .given) .1)
 
 pub judge-output-spec : {M : Type 1} → statement M
 judge-output-spec =
@@ -41,8 +43,8 @@ judge-output-spec =
     all-set-requires
     refused-if-requires
     enum-known-output-2
-    one-register-requires
-    all-set-requires-2
+    register-at-requires
+    is-set-requires
     refused-if-requires-2
     returns
     returns-2)

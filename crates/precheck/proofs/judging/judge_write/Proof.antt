@@ -20,19 +20,19 @@ enum-told-3 : tie.Need-enum-told-3
 enum-told-3 c = search needs
 
 returns : tie.Need-returns
-returns c = simp ((c .judge-bank .ensures), (c .before .before .write .given) .1)
+returns c = λ s. simp ((c .judge-bank .ensures) s, (c .before .before .write .given .1))
 
 returns-2 : tie.Need-returns-2
 unfolding lowest
-returns-2 c = simp ((c .enum-told .given) .1)
+returns-2 c = λ s. simp (c .enum-told .given .1)
 
 returns-3 : tie.Need-returns-3
 unfolding lowest
-returns-3 c = simp ((c .enum-told2 .given) .1)
+returns-3 c = λ s. simp (c .enum-told2 .given .1)
 
 returns-4 : tie.Need-returns-4
 unfolding lowest
-returns-4 c = simp ((c .enum-told3 .given) .1)
+returns-4 c = λ s. simp (c .enum-told3 .given .1)
 
 pub judge-write-spec : {M : Type 1} → statement M
 judge-write-spec =

@@ -1,6 +1,6 @@
 -- `precheck::marking::mark_write` meets its contract. Assumes nothing.
-use denote.Ref.{now}
 use Rattle.precheck.specs.Marks.{markDst, markRegister}
+use denote.Ref.{now}
 use borrow.Author.Needs.{needs}
 use Rattle.precheck.proofs.marking.mark_write.Statement.{statement}
 use Rattle.precheck.proofs.marking.mark_write.Tie as tie
@@ -20,38 +20,38 @@ mark-span-requires c κs = search needs
 enum-known-write-3 : tie.Need-enum-known-write-3
 enum-known-write-3 c = search needs
 
-one-register-requires : tie.Need-one-register-requires
-one-register-requires c κs = search needs
+register-at-requires : tie.Need-register-at-requires
+register-at-requires c κs = search needs
 
-mark-span-requires-2 : tie.Need-mark-span-requires-2
-mark-span-requires-2 c κs = search needs
+set-one-requires : tie.Need-set-one-requires
+set-one-requires c κs = search needs
 
 enum-known-write-4 : tie.Need-enum-known-write-4
 enum-known-write-4 c = search needs
 
-mark-span-requires-3 : tie.Need-mark-span-requires-3
-mark-span-requires-3 c κs = search needs
+mark-span-requires-2 : tie.Need-mark-span-requires-2
+mark-span-requires-2 c κs = search needs
 
 returns : tie.Need-returns
-returns c = simp ((c .before .before .before .before .write .given) .1) ((c .mark-src .ensures) (now (c .before .before .before .before .before .before .before .args .dst)) (now (c .before .before .before .before .before .before .before .args .registers)))
+returns c = λ s. simp (c .before .before .before .before .write .given .1) ((c .mark-src .ensures) s (now (c .before .before .before .before .before .before .before .args .dst)) (now (c .before .before .before .before .before .before .before .args .registers)))
 
 same-length : tie.Need-same-length
-same-length c = (c .before .before .mark-span .kept) .1 .1 .0
+same-length c = search needs
 
 returns-2 : tie.Need-returns-2
 unfolding markDst
-returns-2 c = simp ((c .before .before .mark-span .ensures), (c .before .before .before .before .before .write2 .given) .1)
+returns-2 c = λ s. simp ((c .before .before .mark-span .ensures), (c .before .before .before .before .before .write2 .given .1))
 
 returns-3 : tie.Need-returns-3
 unfolding markRegister
-returns-3 c = simp ((c .mark-span2 .ensures), (c .before .before .one-register .ensures), (c .before .before .before .before .write3 .given) .1)
+returns-3 c = λ s. simp ((c .set-one .ensures), (c .before .before .register-at .ensures), (c .before .before .before .before .write3 .given .1))
 
 same-length-2 : tie.Need-same-length-2
-same-length-2 c = (c .before .before .mark-span3 .kept) .1 .1 .0
+same-length-2 c = search needs
 
 returns-4 : tie.Need-returns-4
 unfolding markDst
-returns-4 c = simp ((c .before .before .mark-span3 .ensures), (c .before .before .before .before .before .write4 .given) .1)
+returns-4 c = λ s. simp ((c .before .before .mark-span2 .ensures), (c .before .before .before .before .before .write4 .given .1))
 
 pub mark-write-spec : {M : Type 1} → statement M
 mark-write-spec =
@@ -62,10 +62,10 @@ mark-write-spec =
     enum-known-write-2
     mark-span-requires
     enum-known-write-3
-    one-register-requires
-    mark-span-requires-2
+    register-at-requires
+    set-one-requires
     enum-known-write-4
-    mark-span-requires-3
+    mark-span-requires-2
     returns
     same-length
     returns-2

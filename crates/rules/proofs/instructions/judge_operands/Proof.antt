@@ -1,6 +1,8 @@
--- `rules::instructions::judge_operands` meets its contract. Assumes nothing.
+-- `rules::judge_operands` meets its contract: class by class. Assumes nothing.
+use Rattle.rules.proofs.Reading.{told-of-all}
 use Rattle.rules.specs.Rules.{operandRules, lowest}
-use Rattle.rules.proofs.Reading.{lowest-told}
+use Rattle.control.specs.Halves.{Choice, joined}
+use Prim.Native.Nat.{ℕ}
 use borrow.Author.Needs.{needs}
 use Rattle.rules.proofs.instructions.judge_operands.Statement.{statement}
 use Rattle.rules.proofs.instructions.judge_operands.Tie as tie
@@ -14,23 +16,20 @@ judge-multiply-requires c κs = search needs
 enum-told : tie.Need-enum-told
 enum-told c = search needs
 
-both-owned-requires : tie.Need-both-owned-requires
-both-owned-requires c κs = search needs
-
-refused-if-requires : tie.Need-refused-if-requires
-refused-if-requires c κs = search needs
+judge-legacy-requires : tie.Need-judge-legacy-requires
+judge-legacy-requires c κs = search needs
 
 enum-known-f-2 : tie.Need-enum-known-f-2
 enum-known-f-2 c = search needs
 
-refused-if-requires-2 : tie.Need-refused-if-requires-2
-refused-if-requires-2 c κs = search needs
+judge-counters-requires : tie.Need-judge-counters-requires
+judge-counters-requires c κs = search needs
 
 enum-known-f-3 : tie.Need-enum-known-f-3
 enum-known-f-3 c = search needs
 
-refused-if-requires-3 : tie.Need-refused-if-requires-3
-refused-if-requires-3 c κs = search needs
+judge-counters-requires-2 : tie.Need-judge-counters-requires-2
+judge-counters-requires-2 c κs = search needs
 
 enum-told-2 : tie.Need-enum-told-2
 enum-told-2 c = search needs
@@ -57,58 +56,49 @@ judge-scalar-requires : tie.Need-judge-scalar-requires
 judge-scalar-requires c κs = search needs
 
 returns : tie.Need-returns
-unfolding operandRules lowest
-returns c =
-    let a = c .before .before .before .before .args in
-    lowest-told (operandRules (a .c) (a .thread) (a .f)) (simp ((c .judge-multiply .ensures), (c .before .before .f .given .1)))
+unfolding joined operandRules lowest
+returns c = let a = (c .before .before .before .before .args) in
+    told-of-all (λ (s : ℕ → Choice). operandRules (joined (a .k) s) (a .thread) (a .f)) _ (λ s. simp ((c .judge-multiply .ensures .0) s, (c .before .before .f .given .1)))
 
 returns-2 : tie.Need-returns-2
-unfolding operandRules lowest
-returns-2 c =
-    let a = c .before .before .before .before .args in
-    lowest-told (operandRules (a .c) (a .thread) (a .f)) (simp ((c .refused-if .ensures .0), (c .before .both-owned .ensures), (c .before .before .enum-told .given .1)))
+unfolding joined operandRules lowest
+returns-2 c = let a = (c .before .before .before .args) in
+    told-of-all (λ (s : ℕ → Choice). operandRules (joined (a .k) s) (a .thread) (a .f)) _ (λ s. simp ((c .judge-legacy .ensures .0) s, (c .before .enum-told .given .1)))
 
 returns-3 : tie.Need-returns-3
-unfolding operandRules lowest
-returns-3 c =
-    let a = c .before .before .before .before .before .args in
-    lowest-told (operandRules (a .c) (a .thread) (a .f)) (simp ((c .refused-if2 .ensures .0), (c .before .before .before .f2 .given .1)))
+unfolding joined operandRules lowest
+returns-3 c = let a = (c .before .before .before .before .args) in
+    told-of-all (λ (s : ℕ → Choice). operandRules (joined (a .k) s) (a .thread) (a .f)) _ (λ s. simp ((c .judge-counters .ensures .0), (c .before .before .f2 .given .1)))
 
 returns-4 : tie.Need-returns-4
-unfolding operandRules lowest
-returns-4 c =
-    let a = c .before .before .before .before .before .args in
-    lowest-told (operandRules (a .c) (a .thread) (a .f)) (simp ((c .refused-if3 .ensures .0), (c .before .before .before .f3 .given .1)))
+unfolding joined operandRules lowest
+returns-4 c = let a = (c .before .before .before .before .args) in
+    told-of-all (λ (s : ℕ → Choice). operandRules (joined (a .k) s) (a .thread) (a .f)) _ (λ s. simp ((c .judge-counters2 .ensures .0), (c .before .before .f3 .given .1)))
 
 returns-5 : tie.Need-returns-5
-unfolding operandRules lowest
-returns-5 c =
-    let a = c .before .before .args in
-    lowest-told (operandRules (a .c) (a .thread) (a .f)) (simp (c .enum-told2 .given .1))
+unfolding joined operandRules lowest
+returns-5 c = let a = (c .before .before .args) in
+    told-of-all (λ (s : ℕ → Choice). operandRules (joined (a .k) s) (a .thread) (a .f)) _ (λ s. simp ((c .enum-told2 .given .1)))
 
 returns-6 : tie.Need-returns-6
-unfolding operandRules lowest
-returns-6 c =
-    let a = c .before .before .before .before .args in
-    lowest-told (operandRules (a .c) (a .thread) (a .f)) (simp ((c .judge-shift-a .ensures), (c .before .before .f4 .given .1)))
+unfolding joined operandRules lowest
+returns-6 c = let a = (c .before .before .before .before .args) in
+    told-of-all (λ (s : ℕ → Choice). operandRules (joined (a .k) s) (a .thread) (a .f)) _ (λ s. simp ((c .judge-shift-a .ensures .0) s, (c .before .before .f4 .given .1)))
 
 returns-7 : tie.Need-returns-7
-unfolding operandRules lowest
-returns-7 c =
-    let a = c .before .before .before .args in
-    lowest-told (operandRules (a .c) (a .thread) (a .f)) (simp ((c .judge-shift-b .ensures), (c .before .enum-told3 .given .1)))
+unfolding joined operandRules lowest
+returns-7 c = let a = (c .before .before .before .args) in
+    told-of-all (λ (s : ℕ → Choice). operandRules (joined (a .k) s) (a .thread) (a .f)) _ (λ s. simp ((c .judge-shift-b .ensures .0), (c .before .enum-told3 .given .1)))
 
 returns-8 : tie.Need-returns-8
-unfolding operandRules lowest
-returns-8 c =
-    let a = c .before .before .args in
-    lowest-told (operandRules (a .c) (a .thread) (a .f)) (simp (c .enum-told4 .given .1))
+unfolding joined operandRules lowest
+returns-8 c = let a = (c .before .before .args) in
+    told-of-all (λ (s : ℕ → Choice). operandRules (joined (a .k) s) (a .thread) (a .f)) _ (λ s. simp ((c .enum-told4 .given .1)))
 
 returns-9 : tie.Need-returns-9
-unfolding operandRules lowest
-returns-9 c =
-    let a = c .before .before .before .before .args in
-    lowest-told (operandRules (a .c) (a .thread) (a .f)) (simp ((c .judge-scalar .ensures), (c .before .before .f5 .given .1)))
+unfolding joined operandRules lowest
+returns-9 c = let a = (c .before .before .before .before .args) in
+    told-of-all (λ (s : ℕ → Choice). operandRules (joined (a .k) s) (a .thread) (a .f)) _ (λ s. simp ((c .judge-scalar .ensures .0), (c .before .before .f5 .given .1)))
 
 pub judge-operands-spec : {M : Type 1} → statement M
 judge-operands-spec =
@@ -117,12 +107,11 @@ judge-operands-spec =
     enum-known-f
     judge-multiply-requires
     enum-told
-    both-owned-requires
-    refused-if-requires
+    judge-legacy-requires
     enum-known-f-2
-    refused-if-requires-2
+    judge-counters-requires
     enum-known-f-3
-    refused-if-requires-3
+    judge-counters-requires-2
     enum-told-2
     enum-known-f-4
     judge-shift-a-requires

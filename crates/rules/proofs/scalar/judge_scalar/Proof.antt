@@ -1,4 +1,9 @@
 -- `rules::scalar::judge_scalar` meets its contract. Assumes nothing.
+use mathlib.Core.Path.{ap}
+use Prim.Native.Nat.{ℕ}
+use lib.Dec.{leb}
+use Rattle.word.specs.declared.Refusal.the-variants.{UndefinedMode}
+use Rattle.rules.proofs.Reading.{one-told}
 use borrow.Author.Needs.{needs}
 use Rattle.rules.proofs.scalar.judge_scalar.Statement.{statement}
 use Rattle.rules.proofs.scalar.judge_scalar.Tie as tie
@@ -10,7 +15,7 @@ refused-if-requires : tie.Need-refused-if-requires
 refused-if-requires c κs = search needs
 
 returns : tie.Need-returns
-returns c = simp ((c .refused-if .ensures .0), (c .before .before .scalar-modes .ensures))
+returns c = one-told UndefinedMode (c .refused-if .ensures .0) (ap (λ (n : ℕ). leb n (c .before .before .before .args .s .mode)) (c .before .before .scalar-modes .ensures))
 
 pub judge-scalar-spec : {M : Type 1} → statement M
 judge-scalar-spec = tie.close (tie.spec scalar-modes-requires refused-if-requires returns)

@@ -1,13 +1,18 @@
 -- `rules::shifts::judge_shift_a` meets its contract. Assumes nothing.
 use Rattle.rules.specs.Rules.{operandRules, lowest}
+use Rattle.rules.proofs.Reading.{told-of-all}
+use Rattle.word.specs.declared.Operands.the-variants as operands
+use Rattle.control.specs.Halves.{Choice, joined}
+use Prim.Native.Nat.{ℕ}
 use borrow.Author.Tests.{lt-ltb, le-ltb}
 use borrow.Author.Needs.{needs}
 use Rattle.rules.proofs.shifts.judge_shift_a.Statement.{statement}
 use Rattle.rules.proofs.shifts.judge_shift_a.Tie as tie
 
 returns : tie.Need-returns
-unfolding operandRules lowest
-returns c = simp (lt-ltb _ _ (c .if1 .taken))
+unfolding joined operandRules lowest
+returns c = let a = (c .before .args) in
+    told-of-all (λ (s : ℕ → Choice). operandRules (joined (a .k) s) 0 (operands.ShiftA (a .mode))) _ (λ s. simp (lt-ltb _ _ (c .if1 .taken)))
 
 matrix-owns-requires : tie.Need-matrix-owns-requires
 matrix-owns-requires c κs = search needs
@@ -16,8 +21,9 @@ refused-if-requires : tie.Need-refused-if-requires
 refused-if-requires c κs = search needs
 
 returns-2 : tie.Need-returns-2
-unfolding operandRules lowest
-returns-2 c = simp (le-ltb _ _ (c .before .before .before .if1 .left), (c .refused-if .ensures .0), (c .before .matrix-owns .ensures))
+unfolding joined operandRules lowest
+returns-2 c = let a = (c .before .before .before .before .args) in
+    told-of-all (λ (s : ℕ → Choice). operandRules (joined (a .k) s) 0 (operands.ShiftA (a .mode))) _ (λ s. simp (le-ltb _ _ (c .before .before .before .if1 .left), (c .refused-if .ensures .0), (c .before .matrix-owns .ensures)))
 
 pub judge-shift-a-spec : {M : Type 1} → statement M
 judge-shift-a-spec =

@@ -12,7 +12,7 @@ no-reads-requires c κs = search needs
 
 returns : tie.Need-returns
 unfolding readsOf
-returns c = simp ((c .no-reads .ensures), (c .before .shifted-b .ensures))
+returns c = λ s. simp ((c .no-reads .ensures), (c .before .shifted-b .ensures) s)
 
 pub shift-b-reads-spec : {M : Type 1} → statement M
 shift-b-reads-spec = tie.close (tie.spec shifted-b-requires no-reads-requires returns)

@@ -2,10 +2,9 @@
 use denote.Ref.{now}
 use mathlib.Core.Path.{_∙_}
 use lib.ListN.{set}
-use Rattle.cells.proofs.Cells.{set-one}
+use Rattle.cells.proofs.Cells.{set-one, one-past}
 use Rattle.cells.specs.Layout.{register}
 use Rattle.job.specs.Kinds.{registerValue}
-use Rattle.run.proofs.Performs.{one-past}
 use borrow.Author.Needs.{needs}
 use Rattle.run.proofs.writing.load_register.Statement.{statement}
 use Rattle.run.proofs.writing.load_register.Tie as tie
@@ -17,7 +16,7 @@ cast-i : tie.Need-cast-i
 cast-i c = search needs
 
 returns : tie.Need-returns
-returns c = let a = (c .before .before .before .before .args) in one-past (λ i. registerValue (now (a .payload))) (now (a .registers)) (register (a .thread) (a .r)) (rw (c .before .register-at .ensures) at (c .if1 .taken))
+returns c = let a = (c .before .before .before .before .args) in one-past 0 (λ i. registerValue (now (a .payload))) (now (a .registers)) (register (a .thread) (a .r)) (rw (c .before .register-at .ensures) at (c .if1 .taken))
 
 register-value-requires : tie.Need-register-value-requires
 register-value-requires c κs = search needs

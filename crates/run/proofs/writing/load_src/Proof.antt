@@ -1,10 +1,10 @@
 -- `run::writing::load_src` meets its contract. Assumes nothing.
-use denote.Ref.{now}
-use mathlib.Core.Path.{_∙_}
 use Rattle.run.specs.Perform.{loaded}
 use Rattle.cells.specs.declared.Width.the-variants.{Bits32}
-use Rattle.cells.specs.Layout.{span}
 use Rattle.cells.specs.State.{state}
+use Rattle.cells.specs.Layout.{span}
+use denote.Ref.{now}
+use mathlib.Core.Path.{_∙_}
 use borrow.Author.Needs.{needs}
 use Rattle.run.proofs.writing.load_src.Statement.{statement}
 use Rattle.run.proofs.writing.load_src.Tie as tie
@@ -28,13 +28,13 @@ same-length : tie.Need-same-length
 same-length c = search needs
 
 returns : tie.Need-returns
-returns c = let a = (c .before .before .before .before .before .before .before .before .before .before .args) in λ d r. (λ i. state ((c .before .before .load-rows .ensures) i) (now (a .srcb)) d r) ∙ (λ i. state (loaded Bits32 (now (a .payload)) (span ((c .before .before .before .before .before .before .first-loaded .ensures) .0 i) (a .rows .count)) (now (a .srca))) (now (a .srcb)) d r) ∙ simp ((c .before .before .before .before .enum-told .given) .1)
+returns c = let a = (c .before .before .before .before .before .before .before .before .before .before .args) in λ s d r. (λ i. state ((c .before .before .load-rows .ensures) i) (now (a .srcb)) d r) ∙ (λ i. state (loaded Bits32 (now (a .payload)) (span ((c .before .before .before .before .before .before .first-loaded .ensures .0) s i) (a .rows .count)) (now (a .srca))) (now (a .srcb)) d r) ∙ simp (c .before .before .before .before .enum-told .given .1)
 
 same-length-2 : tie.Need-same-length-2
 same-length-2 c = search needs
 
 returns-2 : tie.Need-returns-2
-returns-2 c = let a = (c .before .before .before .before .before .before .before .before .before .before .args) in λ d r. (λ i. state (now (a .srca)) ((c .before .before .load-rows2 .ensures) i) d r) ∙ (λ i. state (now (a .srca)) (loaded Bits32 (now (a .payload)) (span ((c .before .before .before .before .before .before .first-loaded .ensures) .0 i) (a .rows .count)) (now (a .srcb))) d r) ∙ simp ((c .before .before .before .before .enum-told2 .given) .1)
+returns-2 c = let a = (c .before .before .before .before .before .before .before .before .before .before .args) in λ s d r. (λ i. state (now (a .srca)) ((c .before .before .load-rows2 .ensures) i) d r) ∙ (λ i. state (now (a .srca)) (loaded Bits32 (now (a .payload)) (span ((c .before .before .before .before .before .before .first-loaded .ensures .0) s i) (a .rows .count)) (now (a .srcb))) d r) ∙ simp (c .before .before .before .before .enum-told2 .given .1)
 
 pub load-src-spec : {M : Type 1} → statement M
 load-src-spec =

@@ -1,8 +1,8 @@
 -- `run::writing::write` meets its contract. Assumes nothing.
 use Rattle.run.specs.Perform.{written}
+use Rattle.cells.specs.State.{state}
 use denote.Ref.{now}
 use mathlib.Core.Path.{_∙_}
-use Rattle.cells.specs.State.{state}
 use borrow.Author.Needs.{needs}
 use Rattle.run.proofs.writing.write.Statement.{statement}
 use Rattle.run.proofs.writing.write.Tie as tie
@@ -42,28 +42,28 @@ same-length-2 c = search needs
 
 returns : tie.Need-returns
 unfolding written
-returns c = let a = (c .before .before .before .before .before .before .before .before .before .before .before .before .before .before .before .args) in (c .before .before .before .before .load-src .ensures) (now (a .dst)) (now (a .registers)) ∙ simp ((c .before .before .before .before .before .before .before .before .what .given) .1)
+returns c = λ s. let a = (c .before .before .before .before .before .before .before .before .before .before .before .before .before .before .before .args) in (c .before .before .before .before .load-src .ensures) s (now (a .dst)) (now (a .registers)) ∙ simp (c .before .before .before .before .before .before .before .before .what .given .1)
 
 same-length-3 : tie.Need-same-length-3
 same-length-3 c = search needs
 
 returns-2 : tie.Need-returns-2
 unfolding written
-returns-2 c = let a = (c .before .before .before .before .before .before .before .before .before .before .before .before .before .args) in (λ i. state (now (a .srca)) (now (a .srcb)) ((c .before .before .load-rows .ensures) i) (now (a .registers))) ∙ simp ((c .before .before .before .before .before .before .what2 .given) .1)
+returns-2 c = λ s. let a = (c .before .before .before .before .before .before .before .before .before .before .before .before .before .args) in (λ i. state (now (a .srca)) (now (a .srcb)) ((c .before .before .load-rows .ensures) i) (now (a .registers))) ∙ simp (c .before .before .before .before .before .before .what2 .given .1)
 
 same-length-4 : tie.Need-same-length-4
 same-length-4 c = search needs
 
 returns-3 : tie.Need-returns-3
 unfolding written
-returns-3 c = let a = (c .before .before .before .before .before .before .before .before .before .before .before .before .args) in (λ i. state (now (a .srca)) (now (a .srcb)) (now (a .dst)) ((c .before .before .load-register .ensures) i)) ∙ simp ((c .before .before .before .before .before .what3 .given) .1)
+returns-3 c = λ s. let a = (c .before .before .before .before .before .before .before .before .before .before .before .before .args) in (λ i. state (now (a .srca)) (now (a .srcb)) (now (a .dst)) ((c .before .before .load-register .ensures) i)) ∙ simp (c .before .before .before .before .before .what3 .given .1)
 
 same-length-5 : tie.Need-same-length-5
 same-length-5 c = search needs
 
 returns-4 : tie.Need-returns-4
 unfolding written
-returns-4 c = let a = (c .before .before .before .before .before .before .before .before .before .before .before .before .args) in (λ i. state (now (a .srca)) (now (a .srcb)) ((c .before .before .fill-rows .ensures) i) (now (a .registers))) ∙ simp ((c .before .before .before .before .before .what4 .given) .1)
+returns-4 c = λ s. let a = (c .before .before .before .before .before .before .before .before .before .before .before .before .args) in (λ i. state (now (a .srca)) (now (a .srcb)) ((c .before .before .fill-rows .ensures) i) (now (a .registers))) ∙ simp (c .before .before .before .before .before .what4 .given .1)
 
 pub write-spec : {M : Type 1} → statement M
 write-spec =

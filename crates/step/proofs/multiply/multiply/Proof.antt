@@ -1,5 +1,4 @@
 -- `step::multiply::multiply` meets its contract. Assumes nothing.
-use Rattle.step.proofs.Sizes.{product-fits}
 use mathlib.Core.Path.{_∙_}
 use borrow.Author.Needs.{needs}
 use Rattle.step.proofs.multiply.multiply.Statement.{statement}
@@ -15,8 +14,7 @@ same-length : tie.Need-same-length
 same-length c = search needs
 
 returns : tie.Need-returns
-returns c = let pre = (c .before .before .before .before .before .before .before .before .pre) in
-    (c .before .before .multiply .ensures .1) ∙ simp ((c .before .before .before .before .product-of .ensures), pre .3, pre .4, pre .5, product-fits (c .before .before .before .before .before .before .before .before .args .c) (c .before .before .before .before .before .before .before .before .args .thread) (c .before .before .before .before .before .before .before .before .args .m) (pre .0) (pre .2))
+returns c = λ s. (c .before .before .multiply .ensures .1) ∙ simp ((c .before .before .before .before .product-of .ensures) s)
 
 pub multiply-spec : {M : Type 1} → statement M
 multiply-spec = tie.close (tie.spec product-of-requires multiply-requires same-length returns)

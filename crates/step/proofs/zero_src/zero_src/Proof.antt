@@ -1,6 +1,6 @@
 -- `step::zero_src::zero_src` meets its contract. Assumes nothing.
-use mathlib.Core.Path.{_∙_}
 use Rattle.cells.specs.Places.{overAt}
+use mathlib.Core.Path.{_∙_}
 use borrow.Author.Needs.{needs}
 use Rattle.step.proofs.zero_src.zero_src.Statement.{statement}
 use Rattle.step.proofs.zero_src.zero_src.Tie as tie
@@ -28,10 +28,7 @@ same-length-2 c = search needs
 
 returns : tie.Need-returns
 unfolding overAt
-returns c = (
-  c .before .before .before .before .before .before .before .fill-rows .ensures ∙ simp (c .before .before .before .before .before .before .before .before .before .before .filled-a .ensures, c .before .before .before .before .before .before .before .before .before .fill-a .ensures),
-  c .before .before .fill-rows2 .ensures ∙ simp (c .before .before .before .before .filled-b .ensures),
-)
+returns c = λ s. ((c .before .before .before .before .before .before .before .fill-rows .ensures) ∙ simp ((c .before .before .before .before .before .before .before .before .before .before .filled-a .ensures) s, (c .before .before .before .before .before .before .before .before .before .fill-a .ensures)), (c .before .before .fill-rows2 .ensures) ∙ simp ((c .before .before .before .before .filled-b .ensures) s))
 
 pub zero-src-spec : {M : Type 1} → statement M
 zero-src-spec =

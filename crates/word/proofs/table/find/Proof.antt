@@ -1,81 +1,203 @@
--- `word::table::find` meets its contract. Assumes nothing.
-use mathlib.Core.Option.{some}
-use mathlib.Core.Bool.{true}
-use lib.Dec.{eqb}
-use lib.ListN.{drop, length, getD, List·getD-map}
-use Rattle.word.specs.declared.table.Found.the-variants.{At}
-use Rattle.word.specs.declared.table.Entry.{Entry}
-use Rattle.word.proofs.Rule.{turn}
-use Rattle.word.specs.Entries.{entryOf, foundOf}
-use Rattle.word.specs.Table.{table, lookup, noRow}
-use native.Mathlib.Omega.{arith}
-use Prim.Native.Nat.{_≤_, _-_}
-use mathlib.Core.Path.{_≡_, refl, _∙_, ap, sym}
+-- `word::table::find` meets its contract: each arm gives the table's row of its opcode, and past the arms no row has the opcode. Assumes nothing.
+use mathlib.Core.Path.{_≡_, sym, ap}
+use Prim.Native.Nat.{ℕ}
+use Rattle.word.specs.Entries.{foundOf}
+use Rattle.word.specs.Table.{table, lookup}
+use Rattle.word.proofs.Rule.{away}
 use borrow.Author.Needs.{needs}
-use borrow.Author.Tests.{eq-eqb, ne-eqb}
 use Rattle.word.proofs.table.find.Statement.{statement}
 use Rattle.word.proofs.table.find.Tie as tie
 
-abbrev Inv-loop : tie.InvT-loop
-Inv-loop opcode rows i₀ i = (lookup table opcode ≡ lookup (drop i table) opcode) × (i ≤ length table)
+-- the row of an arm's opcode, computed in the table
+row : {op n : ℕ} → op ≡ n → foundOf (lookup table n) ≡ foundOf (lookup table op)
+row e = sym (ap (λ (op : ℕ). foundOf (lookup table op)) e)
 
-abbrev μ-loop : tie.MeasureT-loop
-μ-loop opcode rows i₀ i = length table - i
+array-copy-out-t47 : tie.Need-array-copy-out-t47
+array-copy-out-t47 c = search needs
 
-loop-holds : tie.Need-loop-holds Inv-loop μ-loop
+array-copy-out-t50 : tie.Need-array-copy-out-t50
+array-copy-out-t50 c = search needs
+
+array-copy-out-t53 : tie.Need-array-copy-out-t53
+array-copy-out-t53 c = search needs
+
+array-copy-out-t56 : tie.Need-array-copy-out-t56
+array-copy-out-t56 c = search needs
+
+array-copy-out-t59 : tie.Need-array-copy-out-t59
+array-copy-out-t59 c = search needs
+
+array-copy-out-t62 : tie.Need-array-copy-out-t62
+array-copy-out-t62 c = search needs
+
+array-copy-out-t65 : tie.Need-array-copy-out-t65
+array-copy-out-t65 c = search needs
+
+array-copy-out-t68 : tie.Need-array-copy-out-t68
+array-copy-out-t68 c = search needs
+
+array-copy-out-t71 : tie.Need-array-copy-out-t71
+array-copy-out-t71 c = search needs
+
+array-copy-out-t74 : tie.Need-array-copy-out-t74
+array-copy-out-t74 c = search needs
+
+array-copy-out-t77 : tie.Need-array-copy-out-t77
+array-copy-out-t77 c = search needs
+
+array-copy-out-t80 : tie.Need-array-copy-out-t80
+array-copy-out-t80 c = search needs
+
+array-copy-out-t83 : tie.Need-array-copy-out-t83
+array-copy-out-t83 c = search needs
+
+array-copy-out-t86 : tie.Need-array-copy-out-t86
+array-copy-out-t86 c = search needs
+
+array-copy-out-t89 : tie.Need-array-copy-out-t89
+array-copy-out-t89 c = search needs
+
+array-copy-out-t92 : tie.Need-array-copy-out-t92
+array-copy-out-t92 c = search needs
+
+array-copy-out-t95 : tie.Need-array-copy-out-t95
+array-copy-out-t95 c = search needs
+
+array-copy-out-t98 : tie.Need-array-copy-out-t98
+array-copy-out-t98 c = search needs
+
+array-copy-out-t101 : tie.Need-array-copy-out-t101
+array-copy-out-t101 c = search needs
+
+array-copy-out-t104 : tie.Need-array-copy-out-t104
+array-copy-out-t104 c = search needs
+
+returns : tie.Need-returns
 unfolding table
-loop-holds c = (refl, omega arith)
+returns c = row (c .before .match .keys1)
 
-mul-e : tie.Need-mul-e Inv-loop μ-loop
+returns-2 : tie.Need-returns-2
 unfolding table
-mul-e c = search needs
+returns-2 c = row (c .before .match .keys2)
 
-array-copy-out-e : tie.Need-array-copy-out-e Inv-loop μ-loop
+returns-3 : tie.Need-returns-3
 unfolding table
-array-copy-out-e c = search needs
+returns-3 c = row (c .before .match .keys3)
 
-returns : tie.Need-returns Inv-loop μ-loop
+returns-4 : tie.Need-returns-4
 unfolding table
-returns c =
-    let l = c .before .before .before .before .loop in
-    let opcode = c .before .before .before .before .before .args .opcode in
-    let row = List·getD-map entryOf table (l .i) noRow in
-    let here : eqb (getD table (l .i) noRow .opcode) opcode ≡ true = eq-eqb _ _ (sym (ap (λ (e : Entry). e .0) row) ∙ c .if1 .taken) in
-    let is : lookup table opcode ≡ some (getD table (l .i) noRow) = l .inv .0 ∙ turn opcode (l .i) (c .before .before .before .loop-test .taken) ∙ simp here in
-    ap At row ∙ sym (ap foundOf is)
+returns-4 c = row (c .before .match .keys4)
 
-add-i : tie.Need-add-i Inv-loop μ-loop
+returns-5 : tie.Need-returns-5
 unfolding table
-add-i c = omega arith
+returns-5 c = row (c .before .match .keys5)
 
-loop-less : tie.Need-loop-less Inv-loop μ-loop
+returns-6 : tie.Need-returns-6
 unfolding table
-loop-less c = omega arith
+returns-6 c = row (c .before .match .keys6)
 
-loop-again : tie.Need-loop-again Inv-loop μ-loop
+returns-7 : tie.Need-returns-7
 unfolding table
-loop-again c =
-    let l = c .before .before .before .before .loop in
-    let row = List·getD-map entryOf table (l .i) noRow in (
-      l .inv .0 ∙ turn _ (l .i) (c .before .before .before .loop-test .taken) ∙ simp (ne-eqb _ _ (λ q. c .if1 .left (ap (λ (e : Entry). e .0) row ∙ q))),
-      omega arith,
-    )
+returns-7 c = row (c .before .match .keys7)
 
-returns-2 : tie.Need-returns-2 Inv-loop μ-loop
+returns-8 : tie.Need-returns-8
 unfolding table
-returns-2 c = let e : c .before .loop .i ≡ length table = omega arith in sym (ap foundOf (c .before .loop .inv .0) ∙ simp e)
+returns-8 c = row (c .before .match .keys8)
+
+returns-9 : tie.Need-returns-9
+unfolding table
+returns-9 c = row (c .before .match .keys9)
+
+returns-10 : tie.Need-returns-10
+unfolding table
+returns-10 c = row (c .before .match .keys10)
+
+returns-11 : tie.Need-returns-11
+unfolding table
+returns-11 c = row (c .before .match .keys11)
+
+returns-12 : tie.Need-returns-12
+unfolding table
+returns-12 c = row (c .before .match .keys12)
+
+returns-13 : tie.Need-returns-13
+unfolding table
+returns-13 c = row (c .before .match .keys13)
+
+returns-14 : tie.Need-returns-14
+unfolding table
+returns-14 c = row (c .before .match .keys14)
+
+returns-15 : tie.Need-returns-15
+unfolding table
+returns-15 c = row (c .before .match .keys15)
+
+returns-16 : tie.Need-returns-16
+unfolding table
+returns-16 c = row (c .before .match .keys16)
+
+returns-17 : tie.Need-returns-17
+unfolding table
+returns-17 c = row (c .before .match .keys17)
+
+returns-18 : tie.Need-returns-18
+unfolding table
+returns-18 c = row (c .before .match .keys18)
+
+returns-19 : tie.Need-returns-19
+unfolding table
+returns-19 c = row (c .before .match .keys19)
+
+returns-20 : tie.Need-returns-20
+unfolding table
+returns-20 c = row (c .before .match .keys20)
+
+returns-21 : tie.Need-returns-21
+unfolding table
+returns-21 c = sym (ap foundOf (away table (c .before .args .opcode) Unit (c .match .rest) .1))
 
 pub find-spec : {M : Type 1} → statement M
 find-spec =
     tie.close
     (tie.spec
-    Inv-loop
-    μ-loop
-    loop-holds
-    mul-e
-    array-copy-out-e
+    array-copy-out-t47
+    array-copy-out-t50
+    array-copy-out-t53
+    array-copy-out-t56
+    array-copy-out-t59
+    array-copy-out-t62
+    array-copy-out-t65
+    array-copy-out-t68
+    array-copy-out-t71
+    array-copy-out-t74
+    array-copy-out-t77
+    array-copy-out-t80
+    array-copy-out-t83
+    array-copy-out-t86
+    array-copy-out-t89
+    array-copy-out-t92
+    array-copy-out-t95
+    array-copy-out-t98
+    array-copy-out-t101
+    array-copy-out-t104
     returns
-    add-i
-    loop-less
-    loop-again
-    returns-2)
+    returns-2
+    returns-3
+    returns-4
+    returns-5
+    returns-6
+    returns-7
+    returns-8
+    returns-9
+    returns-10
+    returns-11
+    returns-12
+    returns-13
+    returns-14
+    returns-15
+    returns-16
+    returns-17
+    returns-18
+    returns-19
+    returns-20
+    returns-21)

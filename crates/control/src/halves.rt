@@ -1,0 +1,150 @@
+// The core of the record: taken from it and put back, and its threads.
+use crate::Control;
+use crate::Core;
+use crate::Own;
+use crate::Thread;
+use crate::record::start_banks;
+use crate::record::start_settings;
+use crate::record::zero_dst;
+use crate::record::zero_src;
+ghost use mathlib.Core.Path.{_≡_};
+ghost use Rattle.control.specs.Record.{startThread};
+ghost use Rattle.control.specs.Halves.{ownOf, choiceOf, threadOf, coreOf, choicesOf, joined, ownAt, withOwn, startCore};
+
+fn start_own() -> Own
+    ensures { λ r. ⌜ r ≡ ownOf startThread ⌝ }
+{
+    let src = zero_src();
+    let dst = zero_dst();
+    Own {
+        dst,
+        a: src,
+        b: src,
+        phase: 0,
+        offset: 0,
+        fidelity: 0,
+    }
+}
+
+// The core before any field acts.
+pub fn start_core() -> Core
+    ensures { λ r. ⌜ r ≡ startCore ⌝ }
+{
+    let settings = start_settings();
+    let own = start_own();
+    let banks = start_banks();
+    Core {
+        settings,
+        x: own,
+        y: own,
+        z: own,
+        a: banks,
+        b: banks,
+        last: 0,
+    }
+}
+
+// ---- of a record
+
+fn own_of(x: Thread) -> Own
+    ensures { λ r. ⌜ r ≡ ownOf x ⌝ }
+{
+    let dst = x.dst;
+    let a = x.a;
+    let b = x.b;
+    Own {
+        dst,
+        a,
+        b,
+        phase: x.phase,
+        offset: x.offset,
+        fidelity: x.fidelity,
+    }
+}
+
+pub fn core_of(c: Control) -> Core
+    ensures { λ r. ⌜ r ≡ coreOf c ⌝ }
+{
+    let threads = c.threads;
+    let settings = c.settings;
+    let a = c.a;
+    let b = c.b;
+    let x = own_of(threads[0]);
+    let y = own_of(threads[1]);
+    let z = own_of(threads[2]);
+    Core {
+        settings,
+        x,
+        y,
+        z,
+        a,
+        b,
+        last: c.last,
+    }
+}
+
+fn thread_with(x: Thread, o: Own) -> Thread
+    ensures { λ r. ⌜ r ≡ threadOf o (choiceOf x) ⌝ }
+{
+    let mut r = x;
+    let dst = o.dst;
+    let a = o.a;
+    let b = o.b;
+    r.dst = dst;
+    r.a = a;
+    r.b = b;
+    r.phase = o.phase;
+    r.offset = o.offset;
+    r.fidelity = o.fidelity;
+    r
+}
+
+// The record with another core; the address slots stay.
+pub fn with_core(c: Control, k: Core) -> Control
+    ensures { λ r. ⌜ r ≡ joined k (choicesOf c) ⌝ }
+{
+    let old = c.threads;
+    let settings = k.settings;
+    let own_x = k.x;
+    let own_y = k.y;
+    let own_z = k.z;
+    let a = k.a;
+    let b = k.b;
+    let x = thread_with(old[0], own_x);
+    let y = thread_with(old[1], own_y);
+    let z = thread_with(old[2], own_z);
+    let threads = [x, y, z];
+    Control {
+        settings,
+        threads,
+        a,
+        b,
+        last: k.last,
+    }
+}
+
+// ---- the threads
+
+pub fn own_at(k: Core, thread: u8) -> Own
+    ensures { λ r. ⌜ r ≡ ownAt k thread ⌝ }
+{
+    match thread {
+        0 => k.x,
+        1 => k.y,
+        2 => k.z,
+        _ => start_own(),
+    }
+}
+
+pub fn with_own(k: Core, thread: u8, o: Own) -> Core
+    ensures { λ r. ⌜ r ≡ withOwn k thread o ⌝ }
+{
+    let mut r = k;
+    match thread {
+        0 => r.x = o,
+        1 => r.y = o,
+        2 => r.z = o,
+        _ => {}
+    }
+    r
+}
