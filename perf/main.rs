@@ -125,15 +125,18 @@ fn proved_step(word: u32, (record, state): &mut Stepped) -> u64 {
     proved::step(record, 0, word, state)
 }
 
-fn plain_step(word: u32, (record, state): &mut Stepped) -> u64 {
-    let refusal = plain_step::step(record, 0, word, state);
+fn plain_step(word: u32, (record, state): &mut Stepped, write: plain_step::Write) -> u64 {
+    let refusal = plain_step::step(record, 0, word, state, write);
     refusal.map_or(0, |refusal| proved::packed(&refusal.at(0)))
 }
 
-/// Both single steps are done and end alike, and both look at each number of the record.
-fn same_step(name: &str, word: u32, start: &Stepped) {
+/// The single steps are done and end alike, and each looks at each number of the record.
+fn same_step(name: &str, word: u32, start: &Stepped, write: plain_step::Write) {
     let [mut ours, mut plain] = [start.clone(), start.clone()];
-    let answers = (proved_step(word, &mut ours), plain_step(word, &mut plain));
+    let answers = (
+        proved_step(word, &mut ours),
+        plain_step(word, &mut plain, write),
+    );
     assert_eq!(answers, (0, 0), "{name}");
     assert!(ours == plain, "{name}: the numbers differ");
     let refused = proved::packed(&Refusal::Shape.at(0));
@@ -141,7 +144,10 @@ fn same_step(name: &str, word: u32, start: &Stepped) {
         for both in [&mut ours, &mut plain] {
             both.0[n] ^= 1 << 31;
         }
-        let answers = (proved_step(word, &mut ours), plain_step(word, &mut plain));
+        let answers = (
+            proved_step(word, &mut ours),
+            plain_step(word, &mut plain, write),
+        );
         assert_eq!(answers, (refused, refused), "{name}: number {n}");
         for both in [&mut ours, &mut plain] {
             both.0[n] ^= 1 << 31;
@@ -150,26 +156,37 @@ fn same_step(name: &str, word: u32, start: &Stepped) {
 }
 
 /// One instruction of thread 0, again and again: the single step through C against a plain Rust
-/// one. Answers the ratio.
+/// one that writes all numbers back, and one that leaves the address slots'. Answers the ratio to
+/// the first.
 fn measure_step(name: &str, word: u32, start: &Stepped) -> f64 {
-    same_step(name, word, start);
-    let [mut ours, mut plain] = [start.clone(), start.clone()];
+    let writes: [plain_step::Write; 2] = [plain_step::write, plain_step::write_but_slots];
+    for write in writes {
+        same_step(name, word, start, write);
+    }
+    let [mut ours, mut all, mut few] = [start.clone(), start.clone(), start.clone()];
     let mut contenders: Vec<Contender> = vec![
         Box::new(|| {
             black_box(proved_step(black_box(word), &mut ours));
         }),
         Box::new(|| {
-            black_box(plain_step(black_box(word), &mut plain));
+            black_box(plain_step(black_box(word), &mut all, writes[0]));
+        }),
+        Box::new(|| {
+            black_box(plain_step(black_box(word), &mut few, writes[1]));
         }),
     ];
-    let t = times(&mut contenders);
-    let ratio = t[0] / t[1];
+    let [ours, all, few] = times(&mut contenders)[..] else {
+        unreachable!("a time for each contender");
+    };
     println!(
-        "| {name} | {:.0} | {:.0} | {ratio:.2} |",
-        t[0] * 1e3,
-        t[1] * 1e3
+        "| {name} | {:.0} | {:.0} | {:.2} | {:.0} | {:.2} |",
+        ours * 1e3,
+        all * 1e3,
+        ours / all,
+        few * 1e3,
+        ours / few
     );
-    ratio
+    ours / all
 }
 
 /// The same work in rows of 32-bit and of 16-bit numbers, the proved run of both by turns. Only the
@@ -321,7 +338,14 @@ fn precheck_table(named: &[Named]) -> Vec<f64> {
 fn step_table() -> f64 {
     table(
         "The single step, in nanoseconds",
-        &["Word", "Proved, through C", "Plain Rust", "Ratio"],
+        &[
+            "Word",
+            "Proved, through C",
+            "Plain Rust",
+            "Ratio",
+            "Plain Rust, slots not written back",
+            "Ratio",
+        ],
     );
     let job = jobs::loaded_multiplies(&mut Rng(1), Mode::Tf32, 1);
     let start = left("loaded Src", &job);

@@ -1,5 +1,6 @@
 //! The single step as plain Rust would have it for C: the numbers of include/vintrazzola.h become a
-//! record, each of them checked for its range, the step is done, and the numbers are written back.
+//! record, each of them checked for its range, the step is done, and the numbers are written back:
+//! all of them, or all but the address slots', which no instruction changes.
 
 use crate::engine::{
     change_record, rules, Control, Owner, Refusal, Slot, State, Thread, A, B, DST_CARRY, DST_CLEAR,
@@ -92,7 +93,7 @@ fn read_thread(n: &[u32]) -> Option<Thread> {
     Some(thread)
 }
 
-fn write_thread(t: &Thread, n: &mut [u32]) {
+fn write_own(t: &Thread, n: &mut [u32]) {
     n[..OWN].copy_from_slice(&[
         t.dst.into(),
         t.dst_cr.into(),
@@ -105,6 +106,9 @@ fn write_thread(t: &Thread, n: &mut [u32]) {
         t.offset.into(),
         t.fidelity_base.into(),
     ]);
+}
+
+fn write_slots(t: &Thread, n: &mut [u32]) {
     for (s, slot) in t.slots.iter().enumerate() {
         write_slot(slot, &mut n[OWN + s * SLOT..][..SLOT]);
     }
@@ -133,6 +137,14 @@ fn read(n: &[u32]) -> Option<Control> {
 
 /// A record's numbers.
 pub fn write(control: &Control, n: &mut [u32]) {
+    write_but_slots(control, n);
+    for (t, thread) in control.threads.iter().enumerate() {
+        write_slots(thread, &mut n[HEAD + t * THREAD..][..THREAD]);
+    }
+}
+
+/// The same but for the address slots' numbers.
+pub fn write_but_slots(control: &Control, n: &mut [u32]) {
     let flag = |bit: u8| u32::from(control.flags & bit != 0);
     let of_matrix =
         |file: usize, bank: usize| u32::from(control.owner[file][bank] == Owner::Matrix);
@@ -153,12 +165,21 @@ pub fn write(control: &Control, n: &mut [u32]) {
         control.last.into(),
     ]);
     for (t, thread) in control.threads.iter().enumerate() {
-        write_thread(thread, &mut n[HEAD + t * THREAD..][..THREAD]);
+        write_own(thread, &mut n[HEAD + t * THREAD..][..THREAD]);
     }
 }
 
+/// How the record after a step is written back.
+pub type Write = fn(&Control, &mut [u32]);
+
 /// Nothing when done, else what it is refused with.
-pub fn step(record: &mut [u32], thread: usize, word: u32, state: &mut State) -> Option<Refusal> {
+pub fn step(
+    record: &mut [u32],
+    thread: usize,
+    word: u32,
+    state: &mut State,
+    write: Write,
+) -> Option<Refusal> {
     if !state.fits() {
         return Some(Refusal::LentLength);
     }
