@@ -1,4 +1,4 @@
--- The proofs of demand 3, of demand 1 and of what the two Dst modes leave.
+-- The proofs of demand 3, of demand 1, of what the two Dst modes leave and of the last SrcA row.
 mod Ranges
 mod Tags
 mod Cutting
@@ -14,5 +14,6 @@ mod Passed
 mod Refused
 mod Values
 pub mod Modes
+pub mod LastRow
 mod Tagged
 pub mod Demand

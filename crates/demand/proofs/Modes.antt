@@ -86,7 +86,7 @@ off false f n = refl
 
 -- ---- 5 exactly when neither mode is modelled
 
-or-off : (a b : Bool) → (a || b) ≡ false → (a ≡ false) × (b ≡ false)
+pub or-off : (a b : Bool) → (a || b) ≡ false → (a ≡ false) × (b ≡ false)
 or-off true b h = absurd (false≢true (sym h))
 or-off false b h = (refl, h)
 

@@ -1,15 +1,17 @@
--- Demand 3 in one piece, for every list of bytes, with no hypothesis on the job; demand 1 for the pre-check, the job run and the single step; and
--- which numbers the two Dst modes leave. Definitions only.
+-- Demand 3 in one piece, for every list of bytes, with no hypothesis on the job; demand 1 for the pre-check, the job run and the single step;
+-- which numbers the two Dst modes leave; and which instructions set the last SrcA row. Definitions only.
 use mathlib.Core.Path.{_≡_}
 use mathlib.Core.Bool.{true, false}
 use mathlib.Core.List.{List, [], _∷_, map}
 use mathlib.Core.Logic.{_⊎_, _≢_}
 use mathlib.Core.Option.{Option, none, some}
 use Prim.Native.Nat.{ℕ, suc, _≤_, _<_}
+use lib.Bits.{bitAnd}
 use lib.Dec.{ltb}
 use lib.ListN.{length, getD}
 use Rattle.cells.specs.declared.Width.the-variants.{Bits16}
 use Rattle.word.specs.Refusal.{done, refused, numberOf, rankOf}
+use Rattle.word.specs.Operands.{opcodeOf}
 use Rattle.word.specs.Word.{wordOperands}
 use Rattle.word.specs.declared.MultiplyWord.{MultiplyWord}
 use Rattle.word.specs.declared.Operands.the-variants as operands
@@ -17,7 +19,7 @@ use Rattle.word.specs.declared.Refusal.{Refusal}
 use Rattle.word.specs.declared.Refusal.the-variants.{Shape, StateLength, UnmodelledSettings, DstRow}
 use Rattle.control.specs.declared.Control.{Control}
 use Rattle.control.specs.declared.Settings.{Settings}
-use Rattle.control.specs.Record.{start, widthOf}
+use Rattle.control.specs.Record.{start, threadAt, widthOf}
 use Rattle.rules.specs.Rules.{rules}
 use Rattle.rules.specs.declared.Verdict.the-variants as verdict
 use Rattle.cells.specs.State.{State}
@@ -193,3 +195,17 @@ pub record JobModes (job : List ℕ) : Type 0 where
   -- neither the pre-check nor a run over any state refuses a job in the BF16 mode with 7
   pub check : jobWidth job ≡ Bits16 → (r : Refusal) (p : ℕ) → precheckOf job ≡ checked.Refused r p → numberOf r ≢ 7
   pub run : jobWidth job ≡ Bits16 → (s : State) (r : Refusal) (p : ℕ) → runOf job s .outcome ≡ Refused r p → numberOf r ≢ 7
+
+-- ---- the last SrcA row, spelled out by opcodes apart from what an instruction means
+
+-- the three multiplies and the legacy six
+abbrev pub rowLeaving : List ℕ
+rowLeaving = 0x26 ∷ 0x29 ∷ 0x34 ∷ 0x22 ∷ 0x23 ∷ 0x24 ∷ 0x25 ∷ 0x31 ∷ 0x32 ∷ []
+
+-- a single step, over any record, thread, word and state; one that is refused leaves the whole record (`StepDemand1.record-kept`)
+pub record LastRow (c : Control) (t w : ℕ) (s : State) : Type 0 where
+  -- these, done, leave SrcA counter & 0x30, the counter as the step was given it
+  pub left : oneOf (opcodeOf w) rowLeaving ≡ true → verdictOf c t w s ≡ verdict.Done
+      → steppedOf c t w s .control .last ≡ bitAnd (threadAt c t .a .at .0) 0x30
+  -- every other word leaves it as it was
+  pub stays : oneOf (opcodeOf w) rowLeaving ≡ false → steppedOf c t w s .control .last ≡ c .last

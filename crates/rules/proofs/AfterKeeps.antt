@@ -14,7 +14,7 @@ use Rattle.control.proofs.StaysInRange.{clear-kept, last-kept, move-kept, set-k
 use Rattle.rules.specs.Vocabulary.{Move, Stay, Slot, SlotAndLast, Set, Add}
 use Rattle.rules.specs.Multiply.{rowA}
 use Rattle.rules.specs.Instructions.{meaningOf}
-use Rattle.rules.specs.After.{moved, recordAfter, acting, controlAfter}
+use Rattle.rules.specs.After.{moved, lastBy, recordAfter, acting, controlAfter}
 
 -- a clear, a slot, a last SrcA row, SETRWC and INCRWC keep P
 pub record Keeps (P : Control → Type 0) : Type 0 where
@@ -66,3 +66,17 @@ settings-keeps c =
 
 pub record-after-settings : (c : Control) (t : ℕ) (f : Operands) → recordAfter c t f .settings ≡ c .settings
 record-after-settings c t f = record-after-keeps (Same c) (settings-keeps c) c t f refl
+
+-- ---- the last SrcA row after it
+
+move-last : (m : Move) (c : Control) (f : Clear) (t : ℕ) → moved m (clearBanks c f) t .last ≡ lastBy m (rowA c t) (c .last)
+unfolding clearBanks moveOn setCounters addCounters rowA
+move-last Stay c f t = refl
+move-last (Slot n) c f t = refl
+move-last (SlotAndLast n) c f t = refl
+move-last (Set s) c f t = refl
+move-last (Add s) c f t = refl
+
+pub last-after : (c : Control) (t : ℕ) (f : Operands) → recordAfter c t f .last ≡ lastBy (meaningOf f .move) (rowA c t) (c .last)
+unfolding recordAfter
+last-after c t f = move-last (meaningOf f .move) c (meaningOf f .clear) t

@@ -109,16 +109,17 @@ pub fn last_after(x: Own, last: u8, f: Operands) -> u8
     ensures { λ r. ⌜ r ≡ lastBy (meaningOf f .move) (countedA x) last ⌝ }
 {
     match f {
-        Operands::Multiply(_) => multiply::row_a(x),
-        Operands::Legacy(_) => last,
-        Operands::SetCounters(_) => last,
-        Operands::AddCounters(_) => last,
-        Operands::ZeroSrc(_) => last,
-        Operands::ShiftA(_) => last,
-        Operands::ShiftB(_) => last,
-        Operands::NoEffect => last,
-        Operands::Scalar(_) => last,
+        Operands::Multiply(_) => {}
+        Operands::Legacy(_) => {}
+        Operands::SetCounters(_) => return last,
+        Operands::AddCounters(_) => return last,
+        Operands::ZeroSrc(_) => return last,
+        Operands::ShiftA(_) => return last,
+        Operands::ShiftB(_) => return last,
+        Operands::NoEffect => return last,
+        Operands::Scalar(_) => return last,
     }
+    multiply::row_a(x)
 }
 
 // Whether it leaves the record as it is, whatever this holds.
