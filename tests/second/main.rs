@@ -1,5 +1,5 @@
-//! The second program: document 01 and order 1 of document 02 written once more, independently, to
-//! check the emulator from outside. One call builds it:
+//! The second program: document 01 and orders 1 and 3 of document 02 written once more,
+//! independently, to check the emulator from outside. One call builds it:
 //! rustc -O --edition 2021 tests/second/main.rs -o second
 
 mod bf16;
@@ -19,7 +19,7 @@ use std::process::ExitCode;
 use engine::{output, precheck, State, JOB_BYTES};
 use generate::numbers::state;
 use generate::rng::Rng;
-use worked::{half_jobs, paper_jobs};
+use worked::{half_jobs, legacy_jobs, paper_jobs};
 
 const USAGE: &str = "\
 second run FILE [--seed N]       what the job program prints, over zeros or a state of the seed
@@ -79,7 +79,7 @@ fn vector(job: &[u8]) -> String {
 
 /// The jobs to store one after another, each behind its length in two bytes, the low byte first.
 fn store(seed: &str, count: &str, files: &[&str], out: &mut impl Write) -> Result<(), Failure> {
-    let mut all = [paper_jobs(), half_jobs()].concat();
+    let mut all = [paper_jobs(), half_jobs(), legacy_jobs()].concat();
     for file in files {
         all.push(read_job(file)?);
     }

@@ -1,9 +1,12 @@
 //! The papers' numbers as jobs: they are stored, and the self-test says what they print.
 
+use std::ops::Range;
+
 use crate::engine::{
-    datum, row_bytes, settings_bytes, write, Control, Field, Name, A, B, BF16, BLOCK,
-    BLOCK_NUMBERS, COLUMNS, D, DST_ROWS, FP16A, FP32, INT8, JOB_BYTES, MANTISSAS, MOST_DST_ROWS,
-    MVMUL, SHIFTXB, TF32,
+    datum, row_bytes, settings_bytes, write, Control, Entry, Field, Name, A, B, BF16, BITWOPDMAREG,
+    BLOCK, BLOCK_NUMBERS, CLREXPHIST, CMPDMAREG, COLUMNS, CONV3S1, D, DST_ROWS, FLUSHDMA, FP16A,
+    FP32, GATESRCRST, INCRWC, INT8, JOB_BYTES, MANTISSAS, MOST_DST_ROWS, MPOOL3S2, MVMUL, SETRWC,
+    SHIFTDMAREG, SHIFTXA, SHIFTXB, TF32, ZEROSRC,
 };
 
 /// Rows of a multiply.
@@ -19,12 +22,20 @@ pub fn bytes(fields: &[Written]) -> Vec<u8> {
 
 /// The settings of a format and flags, the rest 0.
 pub fn settings(format: u8, flags: u8) -> Written {
-    let payload = settings_bytes(&Control::under(format, flags));
-    write(&Field::Settings(&payload))
+    settings_of(&Control::under(format, flags))
+}
+
+/// A record's settings.
+fn settings_of(record: &Control) -> Written {
+    write(&Field::Settings(&settings_bytes(record)))
 }
 
 pub fn issue(word: u32) -> Written {
-    write(&Field::Issue { thread: 0, word })
+    issue_on(0, word)
+}
+
+fn issue_on(thread: usize, word: u32) -> Written {
+    write(&Field::Issue { thread, word })
 }
 
 /// An MVMUL with a dst field.
@@ -67,6 +78,17 @@ pub fn one() -> u32 {
     power(false, 0)
 }
 
+/// The datum of a whole number from 1 on with at most 11 bits, times a power of two.
+fn whole(number: u32, exponent: u32) -> u32 {
+    let top = number.ilog2();
+    datum(0, 127 + exponent + top, (number << (10 - top)) % MANTISSAS)
+}
+
+/// A row of SrcB that holds 1 to 16 as numbers.
+fn one_to_16() -> Vec<u32> {
+    (1..=16).map(|n| whole(n, 0)).collect()
+}
+
 /// Rows of SrcA with these numbers in column 0, from the top down.
 pub fn column_0(numbers: &[u32]) -> Vec<u32> {
     let mut rows = vec![0; BLOCK_NUMBERS];
@@ -76,13 +98,18 @@ pub fn column_0(numbers: &[u32]) -> Vec<u32> {
     rows
 }
 
-/// The fields that load SrcA rows and one row of SrcB above seven of zeros, and hand both over.
-fn ready(a_rows: &[u32], b_row: &[u32]) -> Vec<Written> {
+/// One row of SrcB above seven of zeros.
+fn load_b(b_row: &[u32]) -> Written {
     let mut b_rows = vec![0; EIGHT_NUMBERS];
     b_rows[..b_row.len()].copy_from_slice(b_row);
+    load(B, 0, &b_rows)
+}
+
+/// The fields that load SrcA rows and one row of SrcB above seven of zeros, and hand both over.
+fn ready(a_rows: &[u32], b_row: &[u32]) -> Vec<Written> {
     vec![
         load(A, 0, a_rows),
-        load(B, 0, &b_rows),
+        load_b(b_row),
         hand_over(A),
         hand_over(B),
     ]
@@ -111,10 +138,7 @@ pub fn paper_jobs() -> Vec<Vec<u8>> {
     for k in 0..BLOCK {
         ones[k * COLUMNS + k] = one();
     }
-    // The datum of a whole number from 1 to 16.
-    let whole = |n: u32| datum(0, 127 + n.ilog2(), (n << (10 - n.ilog2())) % MANTISSAS);
-    let count: Vec<u32> = (1..=16).map(whole).collect();
-    let shifted = |word: u32| bytes(&row_job(&ones, &count, &[issue(word), mvmul(0)]));
+    let shifted = |word: u32| bytes(&row_job(&ones, &one_to_16(), &[issue(word), mvmul(0)]));
     vec![
         shifted(SHIFTXB.word(&[])),
         shifted(SHIFTXB.word(&[(Name::ZeroFill, 1)])),
@@ -251,6 +275,110 @@ pub fn half_jobs() -> Vec<Vec<u8>> {
         zeroing(1, rows),
         zeroing(border, border),
         zeroing(0, border),
+    ];
+    jobs.iter().map(|job| bytes(job)).collect()
+}
+
+// ------------------------------------------------------------ SHIFTXA after a legacy instruction
+
+/// The slot that adds 16 to SrcA, on every thread.
+const NEXT: u32 = 1;
+
+/// SrcA rows that tell rows and columns apart: row r has (r + 1) times 2^j in column j.
+fn load_a(rows: Range<usize>) -> Written {
+    let row = |r: usize| (0..COLUMNS as u32).map(move |j| whole(r as u32 + 1, j));
+    let numbers: Vec<u32> = rows.clone().flat_map(row).collect();
+    load(A, rows.start, &numbers)
+}
+
+fn shift_right() -> u32 {
+    SHIFTXA.word(&[(Name::Mode, 2)])
+}
+
+/// A job with these loads in which a thread brings its SrcA counter to 16 and issues these words.
+/// Then thread 0 moves SHIFTXA's rows to the right and multiplies what is in rows 0 to 15 by SrcB's
+/// row of 1 to 16.
+fn shift_after(loads: &[Written], thread: usize, words: &[u32]) -> Vec<Written> {
+    let mut record = Control::under(TF32, FP32);
+    for thread in &mut record.threads {
+        thread.slots[NEXT as usize].src_step[A] = BLOCK as u8;
+    }
+    // A word adds at most 15.
+    let add_8 = INCRWC.word(&[(Name::CounterA, 8)]);
+    let mut job = vec![settings_of(&record)];
+    job.extend_from_slice(loads);
+    job.extend([load_b(&one_to_16()), hand_over(B), zero(0, EIGHT)]);
+    let words = [&[add_8, add_8], words].concat();
+    job.extend(words.iter().map(|&word| issue_on(thread, word)));
+    job.extend([
+        issue(shift_right()),
+        issue(SETRWC.word(&[(Name::Which, 1)])),
+        mvmul(0),
+        rows_out(0, 1),
+    ]);
+    job
+}
+
+/// A legacy instruction whose slot moves the counter on.
+fn stepping(entry: &Entry) -> u32 {
+    entry.word(&[(Name::Slot, NEXT)])
+}
+
+/// A CONV3S1 with these rows of SrcA alone.
+pub fn shift_after_conv(rows: Range<usize>) -> Vec<Written> {
+    shift_after(&[load_a(rows), hand_over(A)], 0, &[stepping(&CONV3S1)])
+}
+
+/// The same with one that gives SrcA's bank back: the rows are in the other bank, and those of the
+/// first bank are zeros.
+pub fn shift_after_clear(rows: Range<usize>) -> Vec<Written> {
+    let conv = CONV3S1.put(stepping(&CONV3S1), Name::Clear, 1);
+    let zeros = load(A, 0, &[0; 2 * BLOCK_NUMBERS]);
+    let loads = [zeros, hand_over(A), load_a(rows), hand_over(A)];
+    shift_after(&loads, 0, &[conv])
+}
+
+/// A legacy instruction on another thread, whose counter alone is not 0.
+pub fn shift_after_other_thread(rows: Range<usize>) -> Vec<Written> {
+    shift_after(&[load_a(rows), hand_over(A)], 2, &[stepping(&MPOOL3S2)])
+}
+
+/// A CONV3S1, then a word of each entry that leaves the last row as it is, the counter at 32.
+pub fn shift_after_others(rows: Range<usize>) -> Vec<Written> {
+    let (thread, register, value) = (0, 0, 12);
+    let register = write(&Field::LoadRegister {
+        thread,
+        register,
+        value,
+    });
+    let plain = [
+        &SETRWC,
+        &INCRWC,
+        &ZEROSRC,
+        &GATESRCRST,
+        &CLREXPHIST,
+        &FLUSHDMA,
+        &BITWOPDMAREG,
+        &SHIFTDMAREG,
+        &CMPDMAREG,
+    ];
+    // A row of zeros for SHIFTXB.
+    let shift_b = SHIFTXB.word(&[(Name::Row, 1)]);
+    let mut words = vec![stepping(&CONV3S1), shift_right(), shift_b];
+    words.extend(plain.map(|entry| entry.word(&[])));
+    shift_after(&[load_a(rows), hand_over(A), register], 0, &words)
+}
+
+/// The numbers of order 3 as jobs.
+pub fn legacy_jobs() -> Vec<Vec<u8>> {
+    let jobs = [
+        shift_after_conv(0..32),
+        shift_after_conv(0..16),
+        shift_after_conv(16..32),
+        shift_after_clear(16..32),
+        shift_after_clear(0..16),
+        shift_after_other_thread(0..32),
+        shift_after_others(16..32),
     ];
     jobs.iter().map(|job| bytes(job)).collect()
 }

@@ -78,8 +78,17 @@ class Effect:
         """Changes the record."""
 
 
-class Multiply(Effect):
+class LeavesRow(Effect):
+    """Needs both banks, and leaves the SrcA row that its counter gives behind as the last one."""
+
     needs = (A, B)
+
+    def leave(self, issued):
+        issued.record.last = issued.srca_row()
+        issued.record.last_from = f"which {issued.instruction.name} left"
+
+
+class Multiply(LeavesRow):
     modelled_only = True
 
     def __init__(self, rows):
@@ -95,13 +104,6 @@ class Multiply(Effect):
             or record.src[B].unset(issued.now("b") & 0x38, self.rows)
             or record.unset_dst(issued.dst_row(), self.rows)
         )
-
-    def leave(self, issued):
-        issued.record.last = issued.srca_row()
-
-
-class Legacy(Effect):
-    needs = (A, B)
 
 
 class SetCounters(Effect):
@@ -128,7 +130,9 @@ class ShiftA(Effect):
     needs = (A,)
 
     def unset(self, issued):
-        return issued.record.src[A].unset(issued.record.last, COLUMNS)
+        record = issued.record
+        fault = record.src[A].unset(record.last, COLUMNS)
+        return fault and fault._replace(why=f"{fault.why}; the last SrcA row is {record.last}, {record.last_from}")
 
     def leave(self, issued):
         banks = issued.record.src[A]
@@ -154,7 +158,7 @@ class Scalar(Effect):
 EFFECTS = {
     "multiply": Multiply(8),
     "pool": Multiply(4),
-    "legacy": Legacy(),
+    "legacy": LeavesRow(),
     "set": SetCounters(),
     "increment": Increment(),
     "zero": Zero(),

@@ -65,7 +65,8 @@ class Record:
         self.settings = None
         self.counters = [Counters() for _ in range(THREADS)]
         self.src = [Banks(file) for file in (A, B)]
-        self.last = 0
+        # The last SrcA row, and where it is from.
+        self.last, self.last_from = 0, "as at the start"
         # The Dst rows and the (thread, register) pairs that are set.
         self.dst, self.registers = set(), set()
 

@@ -2,6 +2,7 @@
 
 mod data;
 mod issues;
+mod left;
 mod multiplies;
 mod passing;
 mod refused;

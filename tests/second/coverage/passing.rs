@@ -1,6 +1,7 @@
 //! Fields of passing jobs.
 
 use super::issues::{self, Issued};
+use super::left::Trail;
 use super::table::{Group, Table, Test};
 use super::{dst_rows, mode, Mode, MULTIPLY};
 use crate::engine::{
@@ -25,7 +26,7 @@ pub fn count(table: &mut Table, bytes: &[u8]) {
     table.hit(Group::Jobs, "passing");
     table.hit_if(bytes.len() == JOB_BYTES, Group::Size, size_row());
     let (mut control, mut marks) = (Control::start(), Marks::start());
-    let mut state = State::zero();
+    let (mut trail, mut state) = (Trail::default(), State::zero());
     let fields = shape(bytes).0;
     let width = width_of(&fields);
     for (place, field) in fields {
@@ -40,6 +41,8 @@ pub fn count(table: &mut Table, bytes: &[u8]) {
             count_halves(table, &control, &marks, &field);
         }
         count_field(table, &control, &field, &state);
+        trail.count(table, &control, &marks, &field, true);
+        trail.follow(&control, &field);
         act(&control, &field, &mut state);
         follow(&mut control, &mut marks, &field);
     }

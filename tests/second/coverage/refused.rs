@@ -1,5 +1,6 @@
 //! Refused jobs by what they were refused for.
 
+use super::left::Trail;
 use super::table::{Group, Table, Test};
 use super::{dst_rows, mode};
 use crate::engine::{
@@ -39,10 +40,15 @@ pub fn count(table: &mut Table, bytes: &[u8], refusal: Refusal, place: usize) {
         return count_shape(table, bytes, place, &fields);
     }
     let (mut control, mut marks) = (Control::start(), Marks::start());
+    let mut trail = Trail::default();
     for (at, field) in &fields {
         if *at == place {
+            if refusal == Refusal::Unset {
+                trail.count(table, &control, &marks, field, false);
+            }
             return count_field(table, &control, &marks, field, refusal);
         }
+        trail.follow(&control, field);
         follow(&mut control, &mut marks, field);
     }
     unreachable!("a refusal names a field");

@@ -2,11 +2,11 @@
 
 use super::multiplies::{AFTER, BEFORE, DATUM, ROUNDING};
 use super::table::{Group, Table};
-use super::{data, issues, passing, refused, Mode, MULTIPLY};
+use super::{data, issues, left, passing, refused, Mode, MULTIPLY};
 use crate::engine::{
-    Control, Entry, Field, Instruction, Name, Refusal, Scalar, Slot, Tag, Thread, What, Width, A,
-    BANKS, BF16, BITWOPDMAREG, BLOCK, FILES, INCRWC, PHASES, SHIFTXB, SLOTS, SRC, SRC_ROWS, TABLE,
-    TF32, THREADS, ZEROSRC,
+    Class, Control, Entry, Field, Instruction, Name, Refusal, Scalar, Slot, Tag, Thread, What,
+    Width, A, BANKS, BF16, BITWOPDMAREG, BLOCK, FILES, INCRWC, PHASES, SHIFTXB, SLOTS, SRC,
+    SRC_ROWS, TABLE, TF32, THREADS, ZEROSRC,
 };
 use crate::explain::Reason;
 
@@ -37,6 +37,7 @@ pub fn table() -> Table {
     enter_multiplies(&mut table);
     enter_banks(&mut table);
     enter_classes(&mut table);
+    enter_left(&mut table);
     enter_data(&mut table);
     enter_ranges(&mut table);
     table
@@ -155,6 +156,19 @@ fn enter_classes(table: &mut Table) {
     let scalar = issues::scalar_b(Scalar::Bitwise, plain(&BITWOPDMAREG), 0);
     table.enter_tests(Group::ScalarB, scalar);
     table.enter(Group::ScalarCompare, 0..2);
+}
+
+/// Passing and refused SHIFTXAs after legacy instructions.
+fn enter_left(table: &mut Table) {
+    for group in left::GROUPS {
+        let rows = (0..SRC_ROWS).step_by(BLOCK);
+        table.enter(group, rows.map(left::first_row));
+        table.enter(group, names(|entry| entry.class == Class::Legacy));
+        let left = left::Left::default();
+        table.enter_tests(group, left::tests(&left, 0, false, false));
+    }
+    let sets = |class: Class| class.is_multiply() || class == Class::Legacy;
+    table.enter(Group::BetweenLegacy, names(|entry| !sets(entry.class)));
 }
 
 fn enter_data(table: &mut Table) {

@@ -12,12 +12,9 @@ const WHICH_PHASE: u32 = 8;
 #[inline]
 pub fn change_record(control: &mut Control, thread: usize, it: Instruction) {
     match it.entry.class {
-        Class::Multiply { .. } => {
+        Class::Multiply { .. } | Class::Legacy => {
+            // First, as the slot moves the counter that names the row.
             control.last = control.a_row(thread) as u8;
-            clear(control, it);
-            use_slot(control, thread, it);
-        }
-        Class::Legacy => {
             clear(control, it);
             use_slot(control, thread, it);
         }

@@ -111,7 +111,7 @@ pub struct Control {
     pub unpackers: [u8; 2],
     /// By file, then bank.
     pub owner: [[Owner; BANKS]; 2],
-    /// The last SrcA row.
+    /// The last SrcA row: where SHIFTXA's source begins.
     pub last: u8,
 }
 
@@ -184,11 +184,12 @@ impl Control {
         self.owner[file][self.unpackers_bank(file)] == Owner::Unpackers
     }
 
-    /// A multiply's first SrcA row, first SrcB row and phase.
+    /// The first SrcA row of a multiply or a legacy instruction; either leaves it as the last one.
     pub fn a_row(&self, thread: usize) -> usize {
         (self.threads[thread].src[A] & 0x30) as usize
     }
 
+    /// A multiply's first SrcB row and phase.
     pub fn b_row(&self, thread: usize) -> usize {
         (self.threads[thread].src[B] & 0x38) as usize
     }

@@ -128,7 +128,7 @@ impl Builder<'_> {
     }
 
     /// Makes the bank at the unpackers' pointer the unpackers'.
-    fn give_back(&mut self, file: usize) -> Done {
+    pub fn give_back(&mut self, file: usize) -> Done {
         while !self.control.unpackers_have(file) {
             self.clear(file)?;
         }

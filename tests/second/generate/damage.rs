@@ -9,7 +9,7 @@ use super::words::{
     any_bits, bad_word, compose, pick_entry, pick_multiply, pick_needy, pick_scalar, pick_where,
 };
 use crate::engine::{
-    number, raw, rows_of, write, Class, Entry, Field, Tag, Width, A, B, BF16, D, DST_ROWS,
+    number, raw, rows_of, write, Class, Entry, Field, Name, Tag, Width, A, B, BF16, D, DST_ROWS,
     FIELD_ROWS, FLAGS, FORMATS, FP16A, FP32, HEADER, INT8, ISSUE_HEAD, LOAD_HEAD, REGISTERS,
     ROW_BYTES, SETTINGS_BYTES, TF32, THREADS,
 };
@@ -18,6 +18,8 @@ use crate::engine::{
 const SETTINGS: usize = HEADER + SETTINGS_BYTES;
 const FORMAT_AT: usize = HEADER;
 const FLAGS_AT: usize = HEADER + 1;
+/// Where an issue field has its word.
+const WORD_AT: usize = HEADER + ISSUE_HEAD;
 /// What of a row number's second byte moves it by 512.
 const HALF_BIT: u8 = (DST_ROWS >> 8) as u8;
 
@@ -53,7 +55,7 @@ pub fn damage(rng: &mut Rng, fields: &mut Vec<Vec<u8>>) {
         file,
         any,
     };
-    match it.rng.below(32) {
+    match it.rng.below(34) {
         0..=3 | 24 | 25 | 30 | 31 => it.breaks_a_word_rule(),
         4 | 5 => it.multiplies_unmodelled(),
         6 => it.leaves_out(&[Tag::HandOver]),
@@ -71,6 +73,7 @@ pub fn damage(rng: &mut Rng, fields: &mut Vec<Vec<u8>>) {
         26 => it.loads_a_wide_number(),
         27 | 28 => it.changes_the_width(),
         29 => it.names_the_other_half(),
+        32 | 33 => it.leaves_another_row(),
         _ => it.loads_a_whole_file(),
     }
 }
@@ -103,6 +106,15 @@ impl Damage<'_> {
 
     fn pick_of(&mut self, tags: &[Tag]) -> Option<usize> {
         self.pick_where(|field| tags.iter().any(|&tag| is(field, tag)))
+    }
+
+    /// One of the issue fields with an instruction of a class of which something holds.
+    fn pick_issue(&mut self, holds: impl Fn(Class) -> bool) -> Option<usize> {
+        self.pick_where(|field| {
+            let word = field.get(WORD_AT..WORD_AT + 4).map(number);
+            let entry = word.and_then(Entry::of);
+            is(field, Tag::Issue) && entry.is_some_and(|entry| holds(entry.class))
+        })
     }
 
     fn breaks_a_word_rule(&mut self) {
@@ -154,15 +166,18 @@ impl Damage<'_> {
 
     /// A multiply's Dst rows move by 512: past all rows, or to the other half of their lent rows.
     fn moves_a_multiply(&mut self) {
-        let word = HEADER + ISSUE_HEAD;
-        let multiply = |field: &[u8]| {
-            let word = field.get(word..word + 4).map(number);
-            let entry = word.and_then(Entry::of);
-            is(field, Tag::Issue) && entry.is_some_and(|entry| entry.class.is_multiply())
-        };
-        if let Some(n) = self.pick_where(multiply) {
+        if let Some(n) = self.pick_issue(Class::is_multiply) {
             // The dst field begins at bit 0.
-            self.fields[n][word + 1] ^= HALF_BIT;
+            self.fields[n][WORD_AT + 1] ^= HALF_BIT;
+        }
+    }
+
+    /// A legacy instruction right before a SHIFTXA, which then begins at the row left by it.
+    fn leaves_another_row(&mut self) {
+        if let Some(n) = self.pick_issue(|class| class == Class::ShiftXa) {
+            let entry = pick_where(self.rng, |entry| entry.class == Class::Legacy);
+            let word = compose(self.rng, entry);
+            self.issue(n, entry.put(word, Name::Clear, 0));
         }
     }
 

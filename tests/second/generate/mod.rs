@@ -9,6 +9,7 @@ mod damage;
 mod edges;
 mod grow;
 mod halfway;
+mod legacy;
 mod passing;
 mod raw;
 

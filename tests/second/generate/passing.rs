@@ -71,13 +71,13 @@ impl Builder<'_> {
     }
 
     /// A multiply, where it is modelled.
-    fn modelled_multiply(&mut self) -> Option<&'static Entry> {
+    pub fn modelled_multiply(&mut self) -> Option<&'static Entry> {
         let entry = pick_multiply(self.rng);
         self.control.modelled().then_some(entry)
     }
 
     /// Counters set or moved, no bank given back.
-    fn move_counters(&mut self, thread: usize) -> Done {
+    pub fn move_counters(&mut self, thread: usize) -> Done {
         let entry = self.rng.pick(&[&SETRWC, &INCRWC]);
         let mut word = compose(self.rng, entry);
         if entry.class == Class::SetRwc {
@@ -92,12 +92,17 @@ impl Builder<'_> {
             self.move_counters(thread)?;
         }
         let entry = self.modelled_multiply()?;
-        let count = entry.class.dst_rows(0)?.len();
         if self.rng.one_in(8) {
-            self.shift_first(thread, A, count)?;
+            self.shift_first(thread, A, BLOCK)?;
         } else {
             self.ready(A, self.control.a_row(thread), BLOCK)?;
         }
+        self.multiply_by_a(thread, entry)
+    }
+
+    /// A multiply by SrcA's rows as they stand.
+    pub fn multiply_by_a(&mut self, thread: usize, entry: &'static Entry) -> Done {
+        let count = entry.class.dst_rows(0)?.len();
         self.ready(B, self.control.b_row(thread), count)?;
         if self.rng.one_in(8) {
             self.shift_first(thread, B, count)?;
@@ -160,15 +165,6 @@ impl Builder<'_> {
         self.multiply_into(thread, entry, sum)
     }
 
-    fn own_both(&mut self) -> Done {
-        self.own(A)?;
-        self.own(B)
-    }
-
-    fn legacy(&mut self) -> &'static Entry {
-        pick_where(self.rng, |entry| entry.class == Class::Legacy)
-    }
-
     /// Counters on the move by slots alone; the multiply after it shows where they went.
     fn walk(&mut self) -> Done {
         self.own_both()?;
@@ -220,7 +216,7 @@ impl Builder<'_> {
         self.dare(&Field::Issue { thread, word })
     }
 
-    fn scalar(&mut self) -> Done {
+    pub fn scalar(&mut self) -> Done {
         let entry = pick_scalar(self.rng);
         let thread = self.thread();
         let mut word = compose(self.rng, entry);
@@ -263,10 +259,17 @@ impl Builder<'_> {
     }
 
     /// An instruction that needs nothing.
-    fn plain(&mut self, thread: usize) -> Done {
+    pub fn plain(&mut self, thread: usize) -> Done {
         let plain = [Class::SetRwc, Class::IncRwc, Class::ZeroSrc, Class::Nothing];
         let entry = pick_where(self.rng, |e| plain.contains(&e.class));
         let word = compose(self.rng, entry);
+        self.issue(thread, word)
+    }
+
+    pub fn shift_b(&mut self, thread: usize) -> Done {
+        let (entry, word) = (&SHIFTXB, compose(self.rng, &SHIFTXB));
+        let row = Instruction { entry, word }.shifted_row(&self.control, thread);
+        self.ready(B, row, 1)?;
         self.issue(thread, word)
     }
 
@@ -280,11 +283,12 @@ impl Builder<'_> {
                 self.unprepared()
             };
         }
-        match self.rng.below(22) {
+        match self.rng.below(24) {
             0..=5 => self.multiply(),
             18 => self.walk(),
             19 => self.both_banks(),
             20 | 21 => self.halfway(),
+            22 | 23 => self.shift_after_legacy(),
             6 => {
                 let entry = self.legacy();
                 self.own_both()?;
@@ -297,12 +301,7 @@ impl Builder<'_> {
                 let word = compose(self.rng, &SHIFTXA);
                 self.issue(thread, word)
             }
-            10 => {
-                let (entry, word) = (&SHIFTXB, compose(self.rng, &SHIFTXB));
-                let row = Instruction { entry, word }.shifted_row(&self.control, thread);
-                self.ready(B, row, 1)?;
-                self.issue(thread, word)
-            }
+            10 => self.shift_b(thread),
             11..=13 => self.scalar(),
             14 => {
                 let register = self.rng.under(REGISTERS as u32) as usize;

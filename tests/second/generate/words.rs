@@ -1,7 +1,7 @@
 //! Words, right and wrong ones.
 
 use super::rng::Rng;
-use crate::engine::{Entry, Name, TABLE};
+use crate::engine::{Entry, Name, SHIFTXA, TABLE};
 
 pub fn pick_entry(rng: &mut Rng) -> &'static Entry {
     rng.pick(TABLE)
@@ -47,10 +47,11 @@ pub fn any_bits(rng: &mut Rng, entry: &Entry) -> u32 {
 
 /// A word for single steps: mostly of the table, sometimes with a bit flipped, sometimes anything.
 pub fn word(rng: &mut Rng) -> u32 {
-    let entry = if rng.one_in(4) {
-        pick_multiply(rng)
-    } else {
-        pick_entry(rng)
+    let entry = match rng.below(12) {
+        0..=2 => pick_multiply(rng),
+        // It shows the row that a step before it left behind.
+        3 => &SHIFTXA,
+        _ => pick_entry(rng),
     };
     match rng.below(12) {
         0 => rng.word(),

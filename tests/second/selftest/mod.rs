@@ -1,6 +1,7 @@
 //! Small named cases: the papers' worked numbers, and more. A failing one tells what it got.
 
 mod halves;
+mod legacy;
 mod papers;
 mod steps;
 
@@ -28,7 +29,7 @@ fn prints(fields: &[Written]) -> String {
 
 /// What came of all cases, and whether they passed.
 pub fn selftest() -> (String, bool) {
-    let cases = [papers::CASES, halves::CASES].concat();
+    let cases = [papers::CASES, halves::CASES, legacy::CASES].concat();
     let (mut text, mut failed) = (String::new(), 0);
     for (name, test) in &cases {
         if let Err(what) = test() {

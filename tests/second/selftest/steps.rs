@@ -47,12 +47,18 @@ pub fn shifted_b(word: u32) -> Vec<u32> {
     state.srcb[..COLUMNS].to_vec()
 }
 
-/// A bank of SrcA that holds its places, after a word with a last row.
-pub fn shifted_a(last: u8, word: u32) -> Result<Vec<u32>, Refusal> {
+/// Zeros, but for a bank of SrcA that holds its places.
+pub fn places() -> State {
     let mut state = State::zero();
     for n in 0..BANK_NUMBERS {
         state.srca[n] = n as u32;
     }
+    state
+}
+
+/// Such a bank after a word with a last row.
+pub fn shifted_a(last: u8, word: u32) -> Result<Vec<u32>, Refusal> {
+    let mut state = places();
     let mut control = matrix_record();
     control.last = last;
     let refusal = step(&mut control, 0, word, &mut state);

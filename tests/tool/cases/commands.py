@@ -44,6 +44,9 @@ def listing():
     yield has("explain", explained.stdout, b"# ^^^ refused 8 at 180", b"register 4 of thread 0 is unset")
     answer = call("list", "-", "--refused", "refused 8 at 180", given=read("refused_8", "job"))
     yield equal("list --refused", (answer.returncode, answer.stdout), (0, explained.stdout))
+    answer = call("explain", EXAMPLES / "refused_8_shift.job", 8, 1224)
+    message = b"rows 16 to 31 of bank 0 of SrcA are unset; the last SrcA row is 16, which CONV3S1 left"
+    yield has("explain a last SrcA row", answer.stdout, message)
     answer = call("explain", EXAMPLES / "register.job", 8, 180)
     yield has("a refusal of another file", answer.stdout, b"is it the file that was run?")
 
