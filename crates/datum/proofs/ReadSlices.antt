@@ -1,10 +1,10 @@
 -- A datum's slices by its number, and a finite datum's by its value. Assumes nothing.
 use mathlib.Core.Path.{_≡_, refl, sym, ap, _∙_, subst}
 use mathlib.Core.Bool.{Bool, true, false, cond, _&&_}
-use Prim.Native.Nat.{ℕ, zero, suc, _+_, _*_, _^_}
+use Prim.Native.Nat.{ℕ, zero, suc, _+_, _*_, _^_, _<_}
 use native.Mathlib.Nat.{add-mul, zero-mul, mul-pos}
 use native.Mathlib.Omega.{arith}
-use borrow.Author.Tests.{lt-ltb}
+use borrow.Author.Tests.{lt-ltb, ltb-true, ne-eqb}
 use lib.Dec.{eqb, ltb}
 use lib.IntN.{pos}
 use lib.Ieee.{nan, inf, fin}
@@ -12,10 +12,11 @@ use lib.Ieee.Exact.{HasValue}
 use lib.Pow.{pow-pos}
 use Rattle.cells.specs.declared.layout.File.{File}
 use Rattle.cells.specs.declared.layout.File.the-variants.{A, B}
+use Rattle.cells.proofs.Cells.{both}
 use Rattle.datum.specs.declared.Slices.{Slices}
 use Rattle.datum.specs.declared.Datum.the-variants.{Zero, Infinity, NotANumber, Finite}
 use Rattle.datum.specs.Part.{partOf}
-use Rattle.datum.specs.Read.{signOf, exponentOf, mantissaOf, highOf, lowOf, splitOf, kindOf, datumOf, datumSlices, inEach, slicesAs, splitUpTo, asFinite, finiteSlices}
+use Rattle.datum.specs.Read.{signOf, exponentOf, mantissaOf, highOf, lowOf, splitOf, kindOf, datumOf, datumSlices, inEach, slicesAs, numberSlices, isOrdinary, ordinaryOf, ordinarySlices}
 use Rattle.datum.specs.Value.{finiteValue, keptMantissa, IsUnits, MakeUp}
 use Rattle.datum.proofs.Parts.{part-exact}
 
@@ -31,19 +32,34 @@ kind-slices f s e m = go (eqb e 0) (eqb e 255) (eqb m 0)
     go false true false = refl
     go false false c = refl
 
-pub finite-slices : (f : File) (format x : ℕ) → datumSlices (asFinite f format x) ≡ finiteSlices f format x
-finite-slices f format x = go (eqb (exponentOf x) 0)
+pub ordinary-slices : (f : File) (format x : ℕ) → datumSlices (ordinaryOf f format x) ≡ ordinarySlices f format x
+ordinary-slices f format x = go (isOrdinary x)
   where
-    parts : Slices
-    parts = splitUpTo f (signOf x) (exponentOf x) (mantissaOf format x)
-
-    go : (a : Bool) → datumSlices (cond a Zero (Finite parts)) ≡ cond a (inEach (fin false 0 (pos 0))) parts
-    go true = refl
+    go : (b : Bool) → datumSlices (cond b (datumOf f format x) Zero) ≡ cond b (numberSlices f format x) (inEach (fin false 0 (pos 0)))
+    go true = kind-slices f (signOf x) (exponentOf x) (mantissaOf format x)
     go false = refl
 
--- below the exponent 255 a number read as zero or finite is its datum
-pub below-top : (f : File) (format x : ℕ) → eqb (exponentOf x) 255 ≡ false → asFinite f format x ≡ datumOf f format x
-below-top f format x h = simp h
+-- ---- an ordinary number that is not zero, and any other
+
+pub exponent-middle : (e : ℕ) → (ltb 10 e && ltb e 255) ≡ true → (10 < e) × (e < 255)
+exponent-middle e h = let b = both (ltb 10 e) (ltb e 255) h in (ltb-true 10 e (b .0), ltb-true e 255 (b .1))
+
+pub finite-ordinary : (f : File) (format x : ℕ) → (ltb 10 (exponentOf x) && ltb (exponentOf x) 255) ≡ true
+    → ordinaryOf f format x ≡ Finite (splitOf f (signOf x) (exponentOf x) (mantissaOf format x))
+finite-ordinary f format x h =
+    let r = exponent-middle (exponentOf x) h in
+    simp (ne-eqb (exponentOf x) 0 (λ z. omega (arith, r .0, z)), ne-eqb (exponentOf x) 255 (λ z. omega (arith, r .1, z)), h)
+
+pub other-ordinary : (f : File) (format x : ℕ) → (ltb 10 (exponentOf x) && ltb (exponentOf x) 255) ≡ false → ordinaryOf f format x ≡ Zero
+other-ordinary f format x h = go (eqb (exponentOf x) 0) refl
+  where
+    go : (b : Bool) → eqb (exponentOf x) 0 ≡ b → ordinaryOf f format x ≡ Zero
+    go true t = simp (t, h)
+    go false t = simp (t, h)
+
+-- where a number is ordinary, that is its datum
+pub ordinary-datum : (f : File) (format x : ℕ) → isOrdinary x ≡ true → ordinaryOf f format x ≡ datumOf f format x
+ordinary-datum f format x h = simp h
 
 -- ---- the value
 
