@@ -93,21 +93,23 @@ impl Job {
         self.bytes
     }
 
-    /// The job with both Src files handed over and MVMULs over all of Dst: eight rows after eight,
-    /// in all four phases.
-    fn multiply(mut self, count: usize) -> Vec<u8> {
-        let rows = self.mode.rows();
+    /// The job with both Src files handed over and MVMULs, each with its slot.
+    fn multiply(mut self, slots: impl Iterator<Item = u32>) -> Vec<u8> {
         for file in [A, B] {
             self.push(Field::HandOver { file });
         }
-        self.zero_rows(rows);
-        let turn = rows / EIGHT;
-        for n in 0..count {
-            let slot = u32::from(n % turn == turn - 1);
+        self.zero_rows(self.mode.rows());
+        for slot in slots {
             self.issue(0, MVMUL.word(&[(Name::Slot, slot)]));
         }
         self.output_rows(FIELD_ROWS);
         self.bytes
+    }
+
+    /// The same with MVMULs over all of Dst: eight rows after eight, in all four phases.
+    fn multiply_all(self, count: usize) -> Vec<u8> {
+        let turn = self.mode.rows() / EIGHT;
+        self.multiply((0..count).map(|n| u32::from(n % turn == turn - 1)))
     }
 }
 
@@ -123,7 +125,7 @@ pub fn cleared_multiplies(mode: Mode, count: usize) -> Vec<u8> {
     let mut job = Job::new(mode);
     // The banks at the unpackers' pointers.
     job.issue(0, ZEROSRC.word(&[(Name::FileA, 1), (Name::FileB, 1)]));
-    job.multiply(count)
+    job.multiply_all(count)
 }
 
 /// MVMULs over loaded numbers.
@@ -131,7 +133,21 @@ pub fn loaded_multiplies(rng: &mut Rng, mode: Mode, count: usize) -> Vec<u8> {
     let mut job = Job::new(mode);
     job.load_rows(A, &data(rng, BLOCK));
     job.load_rows(B, &data(rng, EIGHT));
-    job.multiply(count)
+    job.multiply_all(count)
+}
+
+/// MVMULs over loaded numbers in one phase and over the same rows, by a slot that moves nothing; the
+/// first few, by slot 0, bring the phase there. With `odd`, one number of each file is that one.
+pub fn phase_multiplies(rng: &mut Rng, phase: usize, odd: Option<u32>, count: usize) -> Vec<u8> {
+    let mut job = Job::new(Mode::Tf32);
+    for (file, rows) in [(A, BLOCK), (B, EIGHT)] {
+        let mut numbers = data(rng, rows);
+        if let Some(odd) = odd {
+            numbers[COLUMNS / 2] = odd;
+        }
+        job.load_rows(file, &numbers);
+    }
+    job.multiply((0..count).map(|n| if n < phase { 0 } else { 2 }))
 }
 
 /// The three scalar instructions in all their modes, with registers and constants, on all threads.

@@ -20,7 +20,8 @@ use std::hint::black_box;
 use std::process::ExitCode;
 
 use engine::{
-    fields, follow_record, precheck, run, Answer, Control, Name, Refusal, State, MVMUL, SETRWC,
+    datum, fields, follow_record, precheck, run, Answer, Control, Name, Refusal, State, MANTISSAS,
+    MVMUL, SETRWC,
 };
 use generate::numbers::state;
 use generate::rng::Rng;
@@ -44,6 +45,17 @@ fn same(name: &str, job: &[u8]) -> State {
 fn proved_contender<'a>(job: &'a [u8], state: &'a mut State) -> Contender<'a> {
     Box::new(|| {
         black_box(proved::run(black_box(job), state));
+    })
+}
+
+/// The tuned run, on the numbers that the others left, which it leaves too.
+fn tuned_contender<'a>(name: &str, job: &'a [u8], state: &'a mut State) -> Contender<'a> {
+    let finished = state.clone();
+    let answer = run_tuned(job, state);
+    let right = answer == precheck(job) && *state == finished;
+    assert!(right, "{name}: the tuned multiply differs");
+    Box::new(|| {
+        black_box(run_tuned(black_box(job), state));
     })
 }
 
@@ -78,12 +90,8 @@ fn measure_run(name: &str, job: &[u8]) -> Vec<f64> {
     }));
     if !products.is_empty() {
         multiply_all(&products, &mut c);
-        let answer = run_tuned(job, &mut d);
-        let right = c.dst == finished.dst && answer == precheck(job) && d == finished;
-        assert!(right, "{name}: the tuned multiply differs");
-        contenders.push(Box::new(|| {
-            black_box(run_tuned(black_box(job), &mut d));
-        }));
+        assert!(c.dst == finished.dst, "{name}: the multiplies alone differ");
+        contenders.push(tuned_contender(name, job, &mut d));
         contenders.push(Box::new(|| multiply_all(black_box(&products), &mut c)));
     }
     let t = times(&mut contenders);
@@ -260,6 +268,36 @@ fn run_table(named: &[Named]) -> Vec<Vec<f64>> {
     measured.collect()
 }
 
+/// A run of 800 multiplies of one phase, its time over their number, against the tuned version; with
+/// one number in each file that is infinite, or so small that its low part is subnormal.
+fn phase_table() {
+    const COUNT: usize = 800;
+    table(
+        "A multiply phase by phase, in nanoseconds",
+        &["Src", "Phase", "Proved", "Tuned", "Ratio"],
+    );
+    let kinds = [
+        ("ordinary numbers", None),
+        ("one infinity", Some(datum(0, 255, 0))),
+        ("one tiny number", Some(datum(0, 3, MANTISSAS - 1))),
+    ];
+    for (name, odd) in kinds {
+        for phase in 0..4 {
+            let job = jobs::phase_multiplies(&mut Rng(1), phase, odd, COUNT);
+            let mut ours = same(name, &job);
+            let mut tuned = ours.clone();
+            let mut contenders = vec![
+                proved_contender(&job, &mut ours),
+                tuned_contender(name, &job, &mut tuned),
+            ];
+            let t = times(&mut contenders);
+            let [ours, tuned] = [t[0], t[1]].map(|time| time * 1e3 / COUNT as f64);
+            let ratio = ours / tuned;
+            println!("| {name} | {phase} | {ours:.0} | {tuned:.0} | {ratio:.2} |");
+        }
+    }
+}
+
 fn width_table() -> [f64; 4] {
     table(
         "Rows of 16-bit numbers against rows of 32-bit ones, format 2",
@@ -408,6 +446,8 @@ fn main() -> ExitCode {
     };
     let named = named_jobs();
     let runs = run_table(&named);
+    println!();
+    phase_table();
     println!();
     let widths = width_table();
     println!();

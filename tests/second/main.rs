@@ -19,7 +19,7 @@ use std::process::ExitCode;
 use engine::{output, precheck, State, JOB_BYTES};
 use generate::numbers::state;
 use generate::rng::Rng;
-use worked::{half_jobs, legacy_jobs, paper_jobs};
+use worked::{half_jobs, legacy_jobs, paper_jobs, tiny_jobs};
 
 const USAGE: &str = "\
 second run FILE [--seed N]       what the job program prints, over zeros or a state of the seed
@@ -79,7 +79,7 @@ fn vector(job: &[u8]) -> String {
 
 /// The jobs to store one after another, each behind its length in two bytes, the low byte first.
 fn store(seed: &str, count: &str, files: &[&str], out: &mut impl Write) -> Result<(), Failure> {
-    let mut all = [paper_jobs(), half_jobs(), legacy_jobs()].concat();
+    let mut all = [paper_jobs(), half_jobs(), legacy_jobs(), tiny_jobs()].concat();
     for file in files {
         all.push(read_job(file)?);
     }

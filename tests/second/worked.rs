@@ -382,3 +382,152 @@ pub fn legacy_jobs() -> Vec<Vec<u8>> {
     ];
     jobs.iter().map(|job| bytes(job)).collect()
 }
+
+// ------------------------------------------------------------------------ Parts of tiny numbers
+
+/// The slot that goes one phase and eight Dst rows on.
+const NEXT_PHASE: u32 = 1;
+
+/// A row at an exponent with low parts of every size, every other number negative.
+fn tiny_row(e: u32) -> Vec<u32> {
+    let mantissas = [
+        1023, 2, 1, 4, 8, 16, 32, 0, 62, 63, 71, 960, 1016, 42, 21, 3,
+    ];
+    let numbers = (0..).zip(mantissas);
+    numbers.map(|(n, m)| datum(n % 2, e, m)).collect()
+}
+
+/// Such rows at exponents from 1 on.
+fn tiny_rows(count: u32) -> Vec<u32> {
+    (1..=count).flat_map(tiny_row).collect()
+}
+
+/// 2^127, with a mantissa for a low part beside it.
+fn large(m: u32) -> u32 {
+    datum(0, 254, m)
+}
+
+/// Rows of zeros but for a number on the diagonal: they show the rows of the other file in Dst.
+fn diagonal(rows: usize, number: u32) -> Vec<u32> {
+    let mut numbers = vec![0; rows * COLUMNS];
+    for n in 0..rows {
+        numbers[n * COLUMNS + n] = number;
+    }
+    numbers
+}
+
+/// A row as SrcA's row 0 and, but for column 0, as SrcB's row 1, each with a large number of the
+/// other file for each of its own: Dst's row 0 shows the one and row 1 the other.
+fn both_ways(row: &[u32], large_a: u32, large_b: u32) -> [Vec<u32>; 2] {
+    let mut a_rows = diagonal(BLOCK, large_a);
+    a_rows[..COLUMNS].copy_from_slice(row);
+    let mut b_rows = vec![0; EIGHT_NUMBERS];
+    b_rows[0] = large_b;
+    b_rows[COLUMNS + 1..2 * COLUMNS].copy_from_slice(&row[1..]);
+    [a_rows, b_rows]
+}
+
+/// A job that multiplies these rows of SrcA and SrcB in phases from one on, into one eight of Dst
+/// rows after another, and puts out the first rows of each.
+fn in_phases(
+    (format, flags, phase): (u8, u8, u8),
+    [a_rows, b_rows]: [Vec<u32>; 2],
+    eights: Range<usize>,
+    count: usize,
+) -> Vec<Written> {
+    let mut record = Control::under(format, flags);
+    record.threads[0].fidelity_base = phase;
+    let slot = &mut record.threads[0].slots[NEXT_PHASE as usize];
+    (slot.fidelity_step, slot.dst_step) = (1, EIGHT as u16);
+    let first = EIGHT * eights.start;
+    let fields = [(Name::Slot, NEXT_PHASE), (Name::Dst, first as u32)];
+    let mut job = vec![
+        settings_of(&record),
+        load(A, 0, &a_rows),
+        load(B, 0, &b_rows),
+        hand_over(A),
+        hand_over(B),
+        zero(first, EIGHT * eights.len()),
+    ];
+    job.extend(vec![issue(MVMUL.word(&fields)); eights.len()]);
+    job.extend(eights.map(|eight| rows_out(EIGHT * eight, count)));
+    job
+}
+
+/// SrcA's low parts at exponents from 1 to 8.
+pub fn tiny_a() -> Vec<Written> {
+    let rows = [tiny_rows(16), diagonal(EIGHT, large(0))];
+    in_phases((TF32, FP32, 1), rows, 0..1, EIGHT)
+}
+
+/// SrcB's.
+pub fn tiny_b() -> Vec<Written> {
+    let rows = [diagonal(BLOCK, large(0)), tiny_rows(8)];
+    in_phases((TF32, FP32, 2), rows, 0..1, EIGHT)
+}
+
+/// Both low parts, those of the large numbers 2^122 and 2^120; then both high parts.
+pub fn tiny_low_and_high() -> Vec<Written> {
+    let rows = both_ways(&tiny_row(1), large(32), large(8));
+    in_phases((TF32, FP32, 3), rows, 0..2, 2)
+}
+
+/// Exponents from 9 to 12, where the last low parts are subnormal.
+pub fn tiny_border() -> Vec<Written> {
+    let number = |n: u32| datum(n % 2, 9 + n / 4, [1, 2, 3, 15][n as usize % 4]);
+    let row: Vec<u32> = (0..16).map(number).collect();
+    let rows = both_ways(&row, large(0), large(0));
+    in_phases((TF32, FP32, 1), rows, 0..2, 2)
+}
+
+/// One tiny number among ordinary ones in SrcA's row 5 and column 3, and one in SrcB's row 2 and
+/// column 7; the other file is large where it meets them.
+pub fn one_tiny() -> Vec<Written> {
+    let (tiny, ordinary) = (datum(1, 1, 1023), datum(0, 67, 701));
+    let mut a_rows = vec![ordinary; BLOCK_NUMBERS];
+    a_rows[5 * COLUMNS + 3] = tiny;
+    a_rows[7 * COLUMNS..8 * COLUMNS].fill(large(0));
+    let mut b_rows = vec![ordinary; EIGHT_NUMBERS];
+    for row in b_rows.chunks_mut(COLUMNS) {
+        row[5] = large(0);
+    }
+    b_rows[2 * COLUMNS + 7] = tiny;
+    in_phases((TF32, FP32, 1), [a_rows, b_rows], 0..2, 3)
+}
+
+/// SrcA's tiny rows with one infinity in row 2 and column 5.
+pub fn one_infinity_a() -> Vec<Written> {
+    let mut a_rows = tiny_rows(16);
+    a_rows[2 * COLUMNS + 5] = datum(1, 255, 0);
+    let rows = [a_rows, diagonal(EIGHT, large(0))];
+    in_phases((TF32, FP32, 1), rows, 0..1, EIGHT)
+}
+
+/// SrcB's with one in row 3 and column 9.
+pub fn one_infinity_b() -> Vec<Written> {
+    let mut b_rows = tiny_rows(8);
+    b_rows[3 * COLUMNS + 9] = datum(0, 255, 0);
+    let rows = [diagonal(BLOCK, large(0)), b_rows];
+    in_phases((TF32, FP32, 2), rows, 0..1, EIGHT)
+}
+
+/// Phases 1 to 3 with 16-bit Dst rows, from the low halves to the high ones.
+pub fn tiny_halves() -> Vec<Written> {
+    let rows = both_ways(&tiny_row(1), large(32), large(8));
+    in_phases((BF16, 0, 1), rows, 63..66, 2)
+}
+
+/// The numbers of order 2 as jobs.
+pub fn tiny_jobs() -> Vec<Vec<u8>> {
+    let jobs = [
+        tiny_a(),
+        tiny_b(),
+        tiny_low_and_high(),
+        tiny_border(),
+        one_tiny(),
+        one_infinity_a(),
+        one_infinity_b(),
+        tiny_halves(),
+    ];
+    jobs.iter().map(|job| bytes(job)).collect()
+}

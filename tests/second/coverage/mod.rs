@@ -4,6 +4,7 @@ mod data;
 mod issues;
 mod left;
 mod multiplies;
+mod parts;
 mod passing;
 mod refused;
 mod rows;

@@ -2,9 +2,9 @@
 
 use std::ops::Range;
 
-use super::data;
 use super::issues::Issued;
 use super::table::{Group, Table};
+use super::{data, parts as taken};
 use crate::engine::{
     change_numbers, parts, src_at, takes_low, State, Width, A, B, BLOCK, CLEAR, COLUMNS,
     DST_COUNTS, DST_ROWS, FILES, FP32, MOST_DST_ROWS,
@@ -33,8 +33,9 @@ pub fn count(table: &mut Table, issued: Issued) {
         let place = if first == 0 { "0" } else { "other" };
         table.hit(Group::MultiplyRow, format!("{} {place}", FILES[file]));
         let low = takes_low(phase, file);
-        let numbers = &issued.state.src(file)[src_at(bank, first)..][..count * COLUMNS];
-        for &number in numbers {
+        let (at, count) = (src_at(bank, first), count * COLUMNS);
+        taken::count(table, issued, file, at, count);
+        for &number in &issued.state.src(file)[at..][..count] {
             let [_, low_part] = parts(file, control.format, number);
             let tests = data::src(control.format, number, low_part, low);
             table.hit_tests(DATUM[file], tests);

@@ -2,7 +2,7 @@
 
 use super::multiplies::{AFTER, BEFORE, DATUM, ROUNDING};
 use super::table::{Group, Table};
-use super::{data, issues, left, passing, refused, Mode, MULTIPLY};
+use super::{data, issues, left, parts, passing, refused, Mode, MULTIPLY};
 use crate::engine::{
     Class, Control, Entry, Field, Instruction, Name, Refusal, Scalar, Slot, Tag, Thread, What,
     Width, A, BANKS, BF16, BITWOPDMAREG, BLOCK, FILES, INCRWC, PHASES, SHIFTXB, SLOTS, SRC,
@@ -176,6 +176,9 @@ fn enter_data(table: &mut Table) {
         table.enter_tests(group, data::src(0, 0, 0.0, false));
     }
     for width in Width::ALL {
+        for group in parts::GROUPS[width as usize] {
+            table.enter_tests(group, parts::tests(width, A, 0, 0, &[], false));
+        }
         table.enter_tests(BEFORE[width as usize], data::before(width, 0));
         table.enter_tests(AFTER[width as usize], data::after(width, 0, 0));
     }

@@ -12,6 +12,7 @@ mod halfway;
 mod legacy;
 mod passing;
 mod raw;
+mod tiny;
 
 pub mod numbers;
 pub mod records;

@@ -1,13 +1,19 @@
 //! Numbers, and lent states of them.
 
 use super::rng::Rng;
+use super::tiny::Tiny;
 use crate::engine::{
-    datum, State, Width, A, BLOCK_NUMBERS, COLUMNS, D, MANTISSAS, REGISTERS, SRC_BITS,
+    datum, State, Width, A, BLOCK, BLOCK_NUMBERS, COLUMNS, D, MANTISSAS, REGISTERS, SRC, SRC_BITS,
 };
 
 const STYLES: u32 = 9;
 
-/// A Src value; one style is kept for a whole load, or infinities would drown all else.
+/// Src values; one style is kept for all, or infinities would drown all else.
+fn src_values(rng: &mut Rng, count: usize) -> Vec<u32> {
+    let style = rng.below(STYLES);
+    (0..count).map(|_| src_value(rng, style)).collect()
+}
+
 fn src_value(rng: &mut Rng, style: u32) -> u32 {
     let e = match style {
         0 | 1 => 119 + rng.below(16),
@@ -75,25 +81,26 @@ pub fn register_value(rng: &mut Rng) -> u32 {
 
 /// Numbers that may be loaded into a file.
 pub fn numbers(rng: &mut Rng, width: Width, file: usize, count: usize) -> Vec<u32> {
-    let style = rng.below(STYLES);
-    let mut number = || match file {
-        D => dst_number(rng, width),
-        _ => src_value(rng, style),
-    };
-    (0..count).map(|_| number()).collect()
+    match file {
+        D => (0..count).map(|_| dst_number(rng, width)).collect(),
+        _ => src_values(rng, count),
+    }
 }
 
 /// A lent state; Src numbers have bits above the 19 as well, Dst has rows for either width.
 pub fn state(rng: &mut Rng) -> State {
     let mut state = State::zero();
-    let files = [&mut state.srca, &mut state.srcb];
-    for block in files
-        .into_iter()
-        .flat_map(|file| file.chunks_mut(BLOCK_NUMBERS))
-    {
-        let style = rng.below(STYLES);
-        for number in block {
-            *number = src_value(rng, style) | (rng.word() << SRC_BITS);
+    let file = rng.pick(&SRC);
+    let tiny = rng.one_in(12).then(|| Tiny::new(rng, file));
+    for file in SRC {
+        for block in state.src_mut(file).chunks_mut(BLOCK_NUMBERS) {
+            let numbers = match &tiny {
+                Some(tiny) => tiny.rows(rng, file, BLOCK),
+                None => src_values(rng, BLOCK_NUMBERS),
+            };
+            for (lent, number) in block.iter_mut().zip(numbers) {
+                *lent = number | (rng.word() << SRC_BITS);
+            }
         }
     }
     for row in state.dst.chunks_mut(COLUMNS) {

@@ -8,7 +8,7 @@ use super::words::{compose, pick_entry, pick_multiply, pick_needy, pick_scalar, 
 use crate::engine::{
     all_set, row_bytes, settings_bytes, Class, Entry, Field, Instruction, Name, Width, A, B, BLOCK,
     CONSTANT, D, DST_COUNTS, DST_ROWS, FIELD_ROWS, INCRWC, JOB_BYTES, REGISTERS, REGISTER_A,
-    REGISTER_B, RESULT, SETRWC, SHIFTXA, SHIFTXB, SRC_ROWS, THREADS,
+    REGISTER_B, RESULT, SETRWC, SHIFTXA, SHIFTXB, SRC_ROWS, TF32, THREADS,
 };
 
 /// Room kept for the outputs at a job's end.
@@ -92,6 +92,11 @@ impl Builder<'_> {
             self.move_counters(thread)?;
         }
         let entry = self.modelled_multiply()?;
+        // More often under format 6: it keeps the lowest digits, which are subnormal the longest.
+        let tiny = if self.control.format == TF32 { 3 } else { 7 };
+        if self.rng.one_in(tiny) {
+            return self.multiply_tiny(entry);
+        }
         if self.rng.one_in(8) {
             self.shift_first(thread, A, BLOCK)?;
         } else {
@@ -122,7 +127,7 @@ impl Builder<'_> {
 
     /// A sum of base, offset, counter and dst field that leads inside Dst; of 16-bit rows now and
     /// then to the other half of rows written before.
-    fn aim(&mut self) -> u32 {
+    pub fn aim(&mut self) -> u32 {
         let rows = self.width().rows() as u32;
         let halves = self.width() == Width::Bits16;
         if halves && !self.written_rows.is_empty() && self.rng.one_in(3) {
@@ -133,7 +138,7 @@ impl Builder<'_> {
     }
 
     /// A multiply with the dst field that leads to a sum, all its 14 bits in use.
-    fn multiply_into(&mut self, thread: usize, entry: &'static Entry, sum: u32) -> Done {
+    pub fn multiply_into(&mut self, thread: usize, entry: &'static Entry, sum: u32) -> Done {
         let dst = self.dst_for(thread, sum) + u32::from(DST_COUNTS) * self.rng.below(16);
         let word = entry.put(compose(self.rng, entry), Name::Dst, dst);
         self.issue(thread, word)?;
@@ -145,6 +150,14 @@ impl Builder<'_> {
         Some(())
     }
 
+    /// A multiply's rows of both files, loaded and handed over.
+    pub fn load_both(&mut self, thread: usize, a: &[u32], b: &[u32]) -> Done {
+        self.load_src_numbers(A, self.control.a_row(thread), a)?;
+        self.pass_on(A)?;
+        self.load_src_numbers(B, self.control.b_row(thread), b)?;
+        self.pass_on(B)
+    }
+
     /// A multiply on the edge of both roundings.
     fn halfway(&mut self) -> Done {
         let thread = self.focus;
@@ -152,10 +165,7 @@ impl Builder<'_> {
         let count = entry.class.dst_rows(0)?.len();
         let phase = self.control.phase(thread);
         let rows = Halfway::new(self.rng, self.control.width(), phase, count);
-        self.load_src_numbers(A, self.control.a_row(thread), &rows.a)?;
-        self.pass_on(A)?;
-        self.load_src_numbers(B, self.control.b_row(thread), &rows.b)?;
-        self.pass_on(B)?;
+        self.load_both(thread, &rows.a, &rows.b)?;
         let sum = self.aim();
         self.push(&Field::LoadRows {
             file: D,

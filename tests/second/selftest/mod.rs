@@ -3,6 +3,7 @@
 mod halves;
 mod legacy;
 mod papers;
+mod parts;
 mod steps;
 
 use std::fmt::Debug;
@@ -29,7 +30,7 @@ fn prints(fields: &[Written]) -> String {
 
 /// What came of all cases, and whether they passed.
 pub fn selftest() -> (String, bool) {
-    let cases = [papers::CASES, halves::CASES, legacy::CASES].concat();
+    let cases = [papers::CASES, halves::CASES, legacy::CASES, parts::CASES].concat();
     let (mut text, mut failed) = (String::new(), 0);
     for (name, test) in &cases {
         if let Err(what) = test() {
