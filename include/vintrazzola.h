@@ -10,9 +10,11 @@
    The answer is one number.
      Below 2^63: the job finished (the run) or passed (the pre-check), and the number is the count of its issue fields;
      of a step it is 0: done.
-     Else it was refused: 2^63 + number * 2^32 + place. The number is 1 to 10, as the README's table says; the place is
-     the byte offset of the field's tag, or the job's length where no output stands, and 0 for a job over 8,192 bytes or
-     a wrong length of a file. A step is refused with 1 to 7 or 9, always at place 0. */
+     Else it was refused: 2^63 + bit * 2^40 + number * 2^32 + place. The number is 1 to 10, as the README's table says;
+     the place is the byte offset of the field's tag, or the job's length where no output stands, and 0 for a job over
+     8,192 bytes or a wrong length of a file. Number 3 alone has a bit, 0 to 23: the lowest of the word's that is 1 and
+     not named by the instruction's row. With any other number there is none, and 0 stands in its place. A step is refused
+     with 1 to 7 or 9, always at place 0. */
 
 #ifndef VINTRAZZOLA_H
 #define VINTRAZZOLA_H
@@ -86,19 +88,23 @@ uint64_t vintrazzola_run(const uint8_t *job, size_t job_length,
 /* One instruction of a thread 0..2 on the record and the four files. Done, the answer is 0, and record and files hold
    what the instruction leaves, so that the next step can go on with them. Refused, every number is as it came: 9 for a
    wrong length of a file, before all else; 1 for a record that has another length or a number out of range, or for
-   another thread; else the lowest of 2 to 7 that the word meets. */
+   another thread; else the lowest of 2 to 7 that the word meets, 3 with its bit. */
 uint64_t vintrazzola_step(uint32_t *record, size_t record_length, uint32_t thread, uint32_t word,
                           uint32_t *srca, size_t srca_length,
                           uint32_t *srcb, size_t srcb_length,
                           uint32_t *dst, size_t dst_length,
                           uint32_t *registers, size_t registers_length);
 
-/* The parts of an answer. */
+/* The parts of an answer. The bit is one only where the number is 3: any other answer gives 0. */
 #define VINTRAZZOLA_REFUSAL_BIT ((uint64_t)1 << 63)
+#define VINTRAZZOLA_BIT_UNIT ((uint64_t)1 << 40)
 #define VINTRAZZOLA_NUMBER_UNIT ((uint64_t)1 << 32)
 static inline int vintrazzola_refused(uint64_t answer) { return answer >= VINTRAZZOLA_REFUSAL_BIT; }
 static inline uint32_t vintrazzola_number(uint64_t answer) {
-    return (uint32_t)(answer / VINTRAZZOLA_NUMBER_UNIT % (VINTRAZZOLA_REFUSAL_BIT / VINTRAZZOLA_NUMBER_UNIT));
+    return (uint32_t)(answer / VINTRAZZOLA_NUMBER_UNIT % (VINTRAZZOLA_BIT_UNIT / VINTRAZZOLA_NUMBER_UNIT));
+}
+static inline uint32_t vintrazzola_bit(uint64_t answer) {
+    return (uint32_t)(answer / VINTRAZZOLA_BIT_UNIT % (VINTRAZZOLA_REFUSAL_BIT / VINTRAZZOLA_BIT_UNIT));
 }
 static inline uint32_t vintrazzola_place(uint64_t answer) { return (uint32_t)(answer % VINTRAZZOLA_NUMBER_UNIT); }
 

@@ -1,4 +1,5 @@
-/* The C interface as a caller in C meets it: include/vintrazzola.h, the paper's register job, and single steps.
+/* The C interface as a caller in C meets it: include/vintrazzola.h, the paper's register job, single steps, and the bit
+   beside a refusal 3.
    tests/compare/run builds it and runs it with the job's path. */
 #include <stdio.h>
 #include <string.h>
@@ -29,6 +30,16 @@ static uint64_t step(uint32_t thread, uint32_t word) {
                             VINTRAZZOLA_DST, registers, VINTRAZZOLA_REGISTERS);
 }
 
+/* A refused step: the parts of its answer, which are all of it. */
+static void refused(const char *what, uint32_t word, uint32_t number, uint32_t bit) {
+    uint64_t answer = step(0, word);
+    expect(what, vintrazzola_refused(answer), 1);
+    expect(what, vintrazzola_number(answer), number);
+    expect(what, vintrazzola_place(answer), 0);
+    expect(what, vintrazzola_bit(answer), bit);
+    expect(what, answer, (uint64_t)1 << 63 | (uint64_t)bit << 40 | (uint64_t)number << 32);
+}
+
 int main(int argc, char **argv) {
     static uint8_t job[8193];
     FILE *file = argc == 2 ? fopen(argv[1], "rb") : NULL;
@@ -47,7 +58,17 @@ int main(int argc, char **argv) {
     expect("a cut job", vintrazzola_refused(cut), 1);
     expect("its number", vintrazzola_number(cut), 1);
     expect("its place", vintrazzola_place(cut), 180);
+    expect("its bit", vintrazzola_bit(cut), 0);
     expect("its register", registers[3], 9);
+    expect("no bit of a count", vintrazzola_bit(run(job, length)), 0);
+
+    /* the same job with unnamed bits 22 and 21 of its word, which stands from byte 176 on */
+    job[178] |= 0x60;
+    uint64_t unnamed = run(job, length);
+    expect("unnamed bits of a job", vintrazzola_number(unnamed), 3);
+    expect("their place", vintrazzola_place(unnamed), 172);
+    expect("the lower one", vintrazzola_bit(unnamed), 21);
+    expect("the pre-check's answer", vintrazzola_precheck(job, length), unnamed);
 
     /* thread 1: register 5 becomes register 2 or the constant 6 */
     registers[64 + 2] = 0x30;
@@ -84,6 +105,20 @@ int main(int argc, char **argv) {
     record[VINTRAZZOLA_LAST_ROW] = 16;
     expect("a record again", step(0, 0x21000000), 0);
     expect("no such thread", vintrazzola_number(step(3, 0x21000000)), 1);
+
+    /* the bit of a refusal 3, and of no other */
+    refused("MVMUL's bit 16", 0x26010000, 3, 16);
+    refused("MVMUL's bits 17 and 18", 0x26060000, 3, 17);
+    refused("MVMUL with all bits", 0x26FFFFFF, 3, 16);
+    refused("CLREXPHIST's bit 0", 0x21000001, 3, 0);
+    refused("CLREXPHIST's bits 23 and 1", 0x21800002, 3, 1);
+    refused("SHIFTXA's bit 23, in an undefined mode", 0x17800000, 3, 23);
+    refused("INCRWC's mode and its bit 5", 0x38FC0020, 3, 5);
+    refused("INCRWC's mode", 0x38FC0000, 4, 0);
+    refused("MVMUL's mode", 0x26380000, 4, 0);
+    refused("an unknown opcode with all bits", 0xFFFFFFFF, 2, 0);
+    expect("no record before an unnamed bit", vintrazzola_bit(step(3, 0x21800000)), 0);
+    expect("all that FLUSHDMA names", step(0, 0x4600000F), 0);
 
     printf("%d passed, %d failed\n", passed, failed);
     return failed > 0;

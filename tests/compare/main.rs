@@ -19,19 +19,28 @@ use std::process::ExitCode;
 use engine::Refusal;
 use generate::rng::Rng;
 
-/// How often each number was given.
+/// How often each number was given, and each bit beside a 3.
 #[derive(Default)]
-struct Refusals(BTreeMap<u8, u64>);
+struct Refusals {
+    numbers: BTreeMap<u8, u64>,
+    bits: BTreeMap<u8, u64>,
+}
 
 impl Refusals {
     fn count(&mut self, refusal: Refusal) {
-        *self.0.entry(refusal.number()).or_default() += 1;
+        *self.numbers.entry(refusal.number()).or_default() += 1;
+        if let Some(bit) = refusal.bit() {
+            *self.bits.entry(bit).or_default() += 1;
+        }
     }
 
     fn print(&self, name: &str) {
-        for (number, times) in &self.0 {
+        for (number, times) in &self.numbers {
             println!("{times} {name} refused with {number}");
         }
+        let bits = self.bits.iter();
+        let bits: Vec<String> = bits.map(|(bit, times)| format!("{bit}: {times}")).collect();
+        println!("bits of the {name} refused with 3: {}", bits.join(", "));
     }
 }
 

@@ -61,12 +61,14 @@ pub fn step(record: &mut [u32], thread: u32, word: u32, state: &mut State) -> u6
     unsafe { vintrazzola_step(record.as_mut_ptr(), record.len(), thread, word, state) }
 }
 
-/// An answer as one number.
+/// An answer as one number: a count, or 2^63 with the refusal's bit from 2^40 on, its number from
+/// 2^32 on and its place. Only a refusal 3 has a bit.
 pub fn packed(answer: &Answer) -> u64 {
     match *answer {
         Answer::Finished(count) => count,
         Answer::Refused { refusal, place } => {
-            1 << 63 | u64::from(refusal.number()) << 32 | place as u64
+            let (bit, number) = (refusal.bit().unwrap_or(0), refusal.number());
+            1 << 63 | u64::from(bit) << 40 | u64::from(number) << 32 | place as u64
         }
     }
 }

@@ -3,8 +3,9 @@
 use std::ops::Range;
 
 use crate::engine::{
-    act, fields, follow, follow_record, lines, precheck, ranged, raw_at, rules, run, shape, step,
-    width_of, Answer, Control, Field, Marks, Ranged, Refusal, State, Width, COLUMNS, THREADS,
+    act, decode, fields, follow, follow_record, lines, precheck, ranged, raw_at, rules, run, shape,
+    step, width_of, Answer, Control, Field, Marks, Ranged, Refusal, State, Width, BELOW_OPCODE,
+    COLUMNS, THREADS,
 };
 use crate::generate::numbers::state;
 use crate::generate::records::record;
@@ -35,6 +36,16 @@ fn written_rows(control: &Control, thread: usize, word: u32) -> Range<usize> {
     let it = rules(control, thread, word).ok();
     let rows = it.and_then(|it| it.dst_rows(control, thread));
     rows.unwrap_or(0..0)
+}
+
+/// Is this the lowest unnamed bit of a word? With all bits above it put out, the word is still
+/// refused with 3, and with this one put out too it no longer is.
+fn is_lowest(bit: u8, word: u32) -> bool {
+    let is_3_below = |end: u8| {
+        let put_out = BELOW_OPCODE & (u32::MAX << end);
+        decode(word & !put_out).is_err_and(|refusal| refusal.number() == 3)
+    };
+    is_3_below(bit + 1) && !is_3_below(bit)
 }
 
 /// A generated job, and what came of it over two states.
@@ -118,6 +129,21 @@ impl Held {
         must(state == self.after[0], "run by steps, it ends otherwise")
     }
 
+    /// A refusal 3 tells the lowest unnamed bit of the issue field at its place.
+    fn tells_the_bit(&self) -> Verdict {
+        let Answer::Refused { refusal, place } = self.answer else {
+            return Ok(());
+        };
+        let Some(bit) = refusal.bit() else {
+            return Ok(());
+        };
+        let told = match fields(&self.bytes).find(|(at, _)| *at == place) {
+            Some((_, Field::Issue { word, .. })) => is_lowest(bit, word),
+            _ => false,
+        };
+        must(told, &format!("answered {:?}", self.answer))
+    }
+
     /// A refusal leaves the state as it stood.
     fn keeps(&self) -> Verdict {
         let kept = self.passes() || self.after == self.before;
@@ -146,8 +172,8 @@ impl Held {
     }
 }
 
-/// A refused step changes nothing, a done step leaves a record in range and writes Dst in its own
-/// rows alone.
+/// A refused step changes nothing and a 3 tells the lowest unnamed bit; a done step leaves a record
+/// in range and writes Dst in its own rows alone.
 fn check_step(rng: &mut Rng, lent: &State) -> Verdict {
     let (old_record, mut old_state) = (record(rng), lent.clone());
     if rng.one_in(20) {
@@ -165,6 +191,7 @@ fn check_step(rng: &mut Rng, lent: &State) -> Verdict {
             new_record.in_range() && changed.iter().all(|row| own.contains(row))
         }
         Some(Refusal::DstRow) => kept && width == Width::Bits32,
+        Some(Refusal::UnnamedBit { bit }) => kept && is_lowest(bit, word),
         Some(_) => kept,
     };
     must(right, &format!("answered {refusal:?}"))
@@ -183,6 +210,7 @@ pub fn check(seed: u64, count: u64) -> (String, bool) {
             Held::reloads,
             Held::ranges,
             Held::steps,
+            Held::tells_the_bit,
             Held::keeps,
             Held::prints,
             Held::leaves,

@@ -32,9 +32,8 @@ fn word_text(word: u32) -> String {
         }
         parts.push(part);
     }
-    let unnamed = word & !entry.named;
-    if unnamed != 0 {
-        parts.push(format!("unnamed bits {unnamed:08x}"));
+    for bit in entry.unnamed().filter(|bit| (word >> bit) & 1 == 1) {
+        parts.push(format!("unnamed bit {bit}"));
     }
     let text = format!("{word:08x} {} {}", entry.name, parts.join(", "));
     text.trim_end().to_string()
@@ -154,7 +153,9 @@ pub fn reason(bytes: &[u8], place: usize) -> Reason {
 
 /// The line below a refused field.
 fn refused_line(refusal: Refusal, why: &str) -> String {
-    format!("{:>5}  ^ refused {}{why}\n", "", refusal.number())
+    let bit = refusal.bit().map(|bit| format!(" bit {bit}"));
+    let bit = bit.unwrap_or_default();
+    format!("{:>5}  ^ refused {}{bit}{why}\n", "", refusal.number())
 }
 
 /// A job field by field, the one that a refusal names marked, and the answer at the end.

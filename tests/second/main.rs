@@ -1,4 +1,4 @@
-//! The second program: document 01 and orders 1 and 3 of document 02 written once more,
+//! The second program: document 01 and orders 1, 3 and 4 of document 02 written once more,
 //! independently, to check the emulator from outside. One call builds it:
 //! rustc -O --edition 2021 tests/second/main.rs -o second
 
@@ -19,11 +19,11 @@ use std::process::ExitCode;
 use engine::{output, precheck, State, JOB_BYTES};
 use generate::numbers::state;
 use generate::rng::Rng;
-use worked::{half_jobs, legacy_jobs, paper_jobs, tiny_jobs};
+use worked::{bit_jobs, half_jobs, legacy_jobs, paper_jobs, tiny_jobs};
 
 const USAGE: &str = "\
 second run FILE [--seed N]       what the job program prints, over zeros or a state of the seed
-second precheck FILE             passed N, or refused N at P
+second precheck FILE             passed N, or refused N at P, a 3 with bit B behind it
 second explain FILE              the job field by field
 second generate SEED COUNT DIR   writes DIR/0000.job and so on
 second vectors SEED COUNT        lines of job in hexadecimal, space, output with | for newlines
@@ -79,7 +79,14 @@ fn vector(job: &[u8]) -> String {
 
 /// The jobs to store one after another, each behind its length in two bytes, the low byte first.
 fn store(seed: &str, count: &str, files: &[&str], out: &mut impl Write) -> Result<(), Failure> {
-    let mut all = [paper_jobs(), half_jobs(), legacy_jobs(), tiny_jobs()].concat();
+    let mut all = [
+        paper_jobs(),
+        half_jobs(),
+        legacy_jobs(),
+        tiny_jobs(),
+        bit_jobs(),
+    ]
+    .concat();
     for file in files {
         all.push(read_job(file)?);
     }

@@ -6,7 +6,7 @@ use crate::engine::{
     datum, row_bytes, settings_bytes, write, Control, Entry, Field, Name, A, B, BF16, BITWOPDMAREG,
     BLOCK, BLOCK_NUMBERS, CLREXPHIST, CMPDMAREG, COLUMNS, CONV3S1, D, DST_ROWS, FLUSHDMA, FP16A,
     FP32, GATESRCRST, INCRWC, INT8, JOB_BYTES, MANTISSAS, MOST_DST_ROWS, MPOOL3S2, MVMUL, SETRWC,
-    SHIFTDMAREG, SHIFTXA, SHIFTXB, TF32, ZEROSRC,
+    SHIFTDMAREG, SHIFTXA, SHIFTXB, TF32, THREADS, ZEROSRC,
 };
 
 /// Rows of a multiply.
@@ -67,6 +67,16 @@ pub fn register_out(register: usize) -> Written {
 
 pub fn hand_over(file: usize) -> Written {
     write(&Field::HandOver { file })
+}
+
+/// 12 in a register of thread 0.
+pub fn load_12(register: usize) -> Written {
+    let (thread, value) = (0, 12);
+    write(&Field::LoadRegister {
+        thread,
+        register,
+        value,
+    })
 }
 
 /// The datum of a power of two.
@@ -345,12 +355,6 @@ pub fn shift_after_other_thread(rows: Range<usize>) -> Vec<Written> {
 
 /// A CONV3S1, then a word of each entry that leaves the last row as it is, the counter at 32.
 pub fn shift_after_others(rows: Range<usize>) -> Vec<Written> {
-    let (thread, register, value) = (0, 0, 12);
-    let register = write(&Field::LoadRegister {
-        thread,
-        register,
-        value,
-    });
     let plain = [
         &SETRWC,
         &INCRWC,
@@ -366,7 +370,7 @@ pub fn shift_after_others(rows: Range<usize>) -> Vec<Written> {
     let shift_b = SHIFTXB.word(&[(Name::Row, 1)]);
     let mut words = vec![stepping(&CONV3S1), shift_right(), shift_b];
     words.extend(plain.map(|entry| entry.word(&[])));
-    shift_after(&[load_a(rows), hand_over(A), register], 0, &words)
+    shift_after(&[load_a(rows), hand_over(A), load_12(0)], 0, &words)
 }
 
 /// The numbers of order 3 as jobs.
@@ -530,4 +534,79 @@ pub fn tiny_jobs() -> Vec<Vec<u8>> {
         tiny_halves(),
     ];
     jobs.iter().map(|job| bytes(job)).collect()
+}
+
+// ---------------------------------------------------------------------------- Which bit was wrong
+
+/// Document 01's worked job with other words, on threads 0, 1 and 2: the first one stands at 172. It
+/// puts out the register that it loads.
+pub fn with_words(words: &[u32]) -> Vec<Written> {
+    let mut job = vec![settings(BF16, FP32), load_12(1)];
+    let words = words.iter().enumerate();
+    job.extend(words.map(|(n, &word)| issue_on(n % THREADS, word)));
+    job.push(register_out(1));
+    job
+}
+
+/// What such a job prints that finishes with one word, and with three.
+const FINISHED_1: &str = "finished 1\nG 0 1 0000000c";
+const FINISHED_3: &str = "finished 3\nG 0 1 0000000c";
+
+/// Words for such a job, and what it prints.
+type Told = (&'static [u32], &'static str);
+pub const TOLD: [Told; 30] = [
+    // MVMUL: bit 16 as in document 02, the two unnamed bits above it, all bits.
+    (&[0x2601_0000], "refused 3 at 172 bit 16"),
+    (&[0x2606_0000], "refused 3 at 172 bit 17"),
+    (&[0x26FF_FFFF], "refused 3 at 172 bit 16"),
+    // Beside an undefined mode, and that mode alone.
+    (&[0x263C_0000], "refused 3 at 172 bit 18"),
+    (&[0x2638_0000], "refused 4 at 172"),
+    // GAPOOL has its slot one bit higher.
+    (&[0x3404_4000], "refused 3 at 172 bit 14"),
+    (&[0x3402_8000], "refused 3 at 172 bit 17"),
+    // CONV3S1 names bit 17, which stands between unnamed ones.
+    (&[0x2221_0000], "refused 3 at 172 bit 16"),
+    (&[0x222A_0000], "refused 3 at 172 bit 19"),
+    // SETRWC with six bits for its four, with one bit mended and with both.
+    (&[0x3700_003F], "refused 3 at 172 bit 4"),
+    (&[0x3700_002F], "refused 3 at 172 bit 5"),
+    (&[0x3700_000F], FINISHED_1),
+    // INCRWC in an undefined mode, with an unnamed bit and without.
+    (&[0x38FC_0001], "refused 3 at 172 bit 0"),
+    (&[0x38FC_0000], "refused 4 at 172"),
+    // ZEROSRC names all bits.
+    (&[0x11FF_FFFF], FINISHED_1),
+    // SHIFTXA, in an undefined mode and with all bits; SHIFTXB.
+    (&[0x1780_0000], "refused 3 at 172 bit 23"),
+    (&[0x17FF_FFFF], "refused 3 at 172 bit 2"),
+    (&[0x1881_2000], "refused 3 at 172 bit 13"),
+    // All that GATESRCRST, FLUSHDMA and CLREXPHIST name, and then more.
+    (&[0x3500_0003, 0x4600_000F, 0x2100_0000], FINISHED_3),
+    (&[0x3580_0007], "refused 3 at 172 bit 2"),
+    (&[0x4680_001F], "refused 3 at 172 bit 4"),
+    (&[0x2100_0001], "refused 3 at 172 bit 0"),
+    (&[0x21FF_FFFF], "refused 3 at 172 bit 0"),
+    // The worked job's own word, and one that reads an unset register in an undefined mode.
+    (&[0x5BE8_3141], "refused 3 at 172 bit 21"),
+    (&[0x5BDC_3145], "refused 3 at 172 bit 22"),
+    // An unknown opcode with all bits.
+    (&[0x28FF_FFFF], "refused 2 at 172"),
+    // Of several words the first wrong one counts, whatever its bit.
+    (&[0x2604_0000, 0x2100_0001], "refused 3 at 172 bit 18"),
+    (
+        &[0x2100_0000, 0x18A0_0800, 0x2100_0001],
+        "refused 3 at 180 bit 11",
+    ),
+    (
+        &[0x5B88_3141, 0x2100_0000, 0x5D60_0000],
+        "refused 3 at 188 bit 21",
+    ),
+    (&[0x5B88_3141, 0x5B88_3141, 0x2100_0001], "refused 8 at 180"),
+];
+
+/// The numbers of order 4 as jobs.
+pub fn bit_jobs() -> Vec<Vec<u8>> {
+    let jobs = TOLD.map(|(words, _)| bytes(&with_words(words)));
+    jobs.to_vec()
 }

@@ -50,18 +50,19 @@ def arguments():
     one.add_argument("-o", dest="out", metavar="OUT.job", help="the job file; none is standard output")
     one = commands.add_parser("list", help="a job file as text")
     one.add_argument("job", metavar="FILE.job", help="the job file; - is standard input")
-    one.add_argument("--refused", metavar="LINE", help='point at the field of a printed line such as "refused 8 at 180"')
-    one = commands.add_parser("explain", help="a job file as text, pointing at the field of `refused N at P`")
+    one.add_argument("--refused", metavar="LINE", help='point at the field of "refused 8 at 180", or "refused 3 at 172 bit 16"')
+    one = commands.add_parser("explain", help="a job file as text, pointing at the field of `refused N at P [bit BIT]`")
     one.add_argument("job", metavar="FILE.job", help="the job file; - is standard input")
     one.add_argument("number", metavar="N", help="the number of the refusal")
     one.add_argument("place", metavar="P", help="its place")
+    one.add_argument("bit", nargs="?", metavar="BIT", help="its bit, which only a refusal 3 has")
     return parser.parse_args()
 
 
 def run(given):
     if given.command == "assemble":
         return assemble_command(given.text, given.out)
-    line = str(Answer(given.number, given.place)) if given.command == "explain" else given.refused
+    line = str(Answer(given.number, given.place, given.bit)) if given.command == "explain" else given.refused
     answer = None if line is None else answer_of(line)
     write_out(listing(read_file(given.job), answer).encode())
 

@@ -24,6 +24,10 @@ class Bits(NamedTuple):
     def place(self):
         return f"{self.high}:{self.low} {self.key}" if self.high > self.low else f"{self.low} {self.key}"
 
+    def above(self, bit):
+        """How far these bits are above a bit; less than 0 where they are below it, 0 where it is one of them."""
+        return max(self.low - bit, 0) + min(self.high - bit, 0)
+
 
 class Instruction(NamedTuple):
     """A row of the table. What a kind of instruction needs, reads and leaves behind stands in effects.py."""
@@ -33,9 +37,18 @@ class Instruction(NamedTuple):
     kind: str
     bits: tuple
 
+    def naming(self, bit):
+        """The field that a bit is of, or None where the row does not name it."""
+        return next((bits for bits in self.bits if bits.above(bit) == 0), None)
+
     def unnamed(self, word):
-        """The bits of a word that are 1 and that the row does not name."""
-        return word & ~(0xFF << OPCODE_LOW | sum(bits.most() << bits.low for bits in self.bits))
+        """The bits of a word, the lowest first, that are 1 and that the row does not name."""
+        return [bit for bit in range(OPCODE_LOW) if word >> bit & 1 and not self.naming(bit)]
+
+    def nearest(self, bit):
+        """The fields nearest to an unnamed bit: two where they are equally near, none where the row has none."""
+        least = min((abs(bits.above(bit)) for bits in self.bits), default=0)
+        return [bits for bits in self.bits if abs(bits.above(bit)) == least]
 
     def find(self, key):
         return next((bits for bits in self.bits if bits.key == key), None)

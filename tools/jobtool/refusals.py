@@ -10,13 +10,14 @@ from .wrong import Wrong
 
 class Refusal(NamedTuple):
     """A number, what it means and what to do about it. `judged` says that the job alone decides, so
-    that this tool can too; `at_field` that the place is a field's."""
+    that this tool can too; `at_field` that the place is a field's; `has_bit` that a bit stands behind it."""
 
     number: int
     meaning: str
     remedy: str
     judged: bool = True
     at_field: bool = True
+    has_bit: bool = False
 
 
 SHAPE = Refusal(
@@ -27,7 +28,7 @@ SHAPE = Refusal(
 OPCODE = Refusal(
     2, "unknown opcode", f"use one of the {HOW_MANY} modelled instructions; the opcode is the word's top eight bits"
 )
-UNNAMED = Refusal(3, "an unnamed bit is 1", "clear the bits that the instruction's row does not name")
+UNNAMED = Refusal(3, "an unnamed bit is 1", "clear the bits that the instruction's row does not name", has_bit=True)
 MODE = Refusal(4, "undefined mode", "use a mode that the instruction's row defines")
 SETTINGS = Refusal(
     5,
@@ -64,36 +65,39 @@ BY_NUMBER = {refusal.number: refusal for refusal in TABLE}
 
 
 class Answer(NamedTuple):
-    """A number and a place, as a refused job's printed line gives them."""
+    """A number, a place and perhaps a bit, as a refused job's printed line gives them."""
 
     number: int
     place: int
+    bit: int = None
 
     def __str__(self):
-        return f"refused {self.number} at {self.place}"
+        line = f"refused {self.number} at {self.place}"
+        return line if self.bit is None else f"{line} bit {self.bit}"
 
 
-LINE = re.compile(r"\s*refused (\d{1,9}) at (\d{1,9})\s*", re.ASCII)
+LINE = re.compile(r"\s*refused (\d{1,9}) at (\d{1,9})(?: bit (\d{1,9}))?\s*", re.ASCII)
 
 
 def answer_of(text):
     match = LINE.fullmatch(text)
     if not match:
-        raise Wrong(f'{text!r}: give the printed line, such as "{Answer(8, 180)}"')
-    return Answer(*map(int, match.groups()))
+        raise Wrong(f'{text!r}: give the printed line, such as "{Answer(8, 180)}" or "{Answer(3, 172, 16)}"')
+    return Answer(*(digits and int(digits) for digits in match.groups()))
 
 
 class Fault(NamedTuple):
-    """A refusal that a job meets: why, what to do about it where that is not the usual, and its place,
-    which is left open until the field is known."""
+    """A refusal that a job meets: why, what to do about it where that is not the usual, its place, which
+    is left open until the field is known, and its bit where it has one."""
 
     refusal: Refusal
     why: str
     remedy: str = ""
     place: int = 0
+    bit: int = None
 
     def answer(self):
-        return Answer(self.refusal.number, self.place)
+        return Answer(self.refusal.number, self.place, self.bit)
 
     def what_to_do(self):
         return self.remedy or self.refusal.remedy

@@ -48,9 +48,25 @@ def unnamed_bits(issued):
     unnamed = instruction.unnamed(word)
     if not unnamed:
         return None
+    lowest, *others = unnamed
+    why = f"bit {lowest} of 0x{word:08x} is 1, and {instruction.name} names {named_bits(instruction, lowest)}"
+    remedy = f"clear bit {lowest}"
+    if others:
+        remedy += f", and {'bit' if len(others) == 1 else 'bits'} {span(others)}, which would be refused next"
+    return Fault(refusals.UNNAMED, why, remedy, bit=lowest)
+
+
+def named_bits(instruction, bit):
+    """What a row names, and what of it is nearest to a bit that it does not name."""
+    if not instruction.bits:
+        return "no bits"
     named = ", ".join(bits.place() for bits in sorted(instruction.bits, key=lambda bits: -bits.low))
-    at = span(bit for bit in range(OPCODE_LOW) if unnamed >> bit & 1)
-    return Fault(refusals.UNNAMED, f"bit {at} of 0x{word:08x} is 1, and {instruction.name} names only {named or 'its opcode'}")
+    near = []
+    for bits in instruction.nearest(bit):
+        above = bits.above(bit)
+        far = "one bit" if abs(above) == 1 else f"{abs(above)} bits"
+        near.append(f"{bits.place()}, {far} {'above' if above > 0 else 'below'}")
+    return f"only {named}; nearest {'is' if len(near) == 1 else 'are'} {', and '.join(near)}"
 
 
 def undefined_mode(issued):

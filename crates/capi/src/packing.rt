@@ -16,10 +16,15 @@ const REFUSAL_BIT: u64 = 1 << 63;
 // The refusal's number is counted in these; its place stands below.
 const NUMBER_UNIT: u64 = 1 << 32;
 
+// The bit of refusal 3 is counted in these, above the number.
+const BIT_UNIT: u64 = 1 << 40;
+
 fn pack_refusal(refusal: Refusal, place: usize) -> u64
     ensures { λ r. ⌜ r ≡ packed (answerOf refusal place) ⌝ }
 {
-    REFUSAL_BIT + (word::number(refusal) as u64) * NUMBER_UNIT + (place as u64) % NUMBER_UNIT
+    let bit = word::bit(refusal) as u64;
+    let number = word::number(refusal) as u64;
+    REFUSAL_BIT + bit * BIT_UNIT + number * NUMBER_UNIT + (place as u64) % NUMBER_UNIT
 }
 
 pub(crate) fn pack_checked(checked: Checked) -> u64

@@ -14,7 +14,7 @@ use Rattle.cells.specs.Layout.{srcRows, srcNumbers, dstNumbers, registerCount}
 use Rattle.cells.specs.Places.{rowCount}
 use Rattle.cells.proofs.Cells.{split}
 use Rattle.cells.proofs.Same.{Same}
-use Rattle.word.specs.Refusal.{numberOf}
+use Rattle.word.specs.Refusal.{numberOf, bitOf}
 use Rattle.word.specs.declared.Refusal.{Refusal}
 use Rattle.word.specs.declared.Refusal.the-variants as refusal
 use Rattle.control.specs.Record.{start}
@@ -52,6 +52,7 @@ use Rattle.demand.proofs.Tagged.{issues-tagged, halves, bytes}
 use Rattle.demand.proofs.Steps.{sizes-of, lengths-of}
 use Rattle.demand.proofs.Refused.{none-breaks, first-breaks}
 use Rattle.demand.proofs.Rules.{ranks}
+use Rattle.demand.proofs.Bits.{Told, not-three, precheck-told}
 use Rattle.demand.proofs.Values.{values-same}
 
 -- ---- at the start all is unset, so any two states of the right sizes agree
@@ -153,6 +154,8 @@ module _ (job : List ℕ) where
         misshapen = λ p h. precheck-wrong job p (first-wrong job p h);
         found = named-by;
         named = tabled;
+        issue = λ r p e. precheck-told job r p e .0;
+        bit = λ r p e. precheck-told job r p e .1;
         refuses = λ r p e s l. run-refused job s (size s l) r p e;
         values = λ w other o. values-same job other (λ f. true) o;
         values-before = λ p w other o. values-same job other (λ f. ltb (f .place) p) o;
@@ -187,7 +190,11 @@ module _ (job : List ℕ) where
             let l : b ≡ p = cc in
             (x .0, inr (w ∙ (λ i. checked.Refused (k i) (l i))))
 
-    line : (r : Refusal) (p : ℕ) → runOf job s .outcome ≡ Refused r p → textsOf job (runOf job s) ≡ refusedText (numberOf r) p ∷ []
+    -- 9 has no bit, any other number that of the pre-check
+    told-by : (r : Refusal) (p : ℕ) → runOf job s .outcome ≡ Refused r p → Told job r p
+    told-by r p o = ⊎-elim (λ n. not-three job r p (λ z. omega (arith, n, z))) (precheck-told job r p) (refused r p o .1)
+
+    line : (r : Refusal) (p : ℕ) → runOf job s .outcome ≡ Refused r p → textsOf job (runOf job s) ≡ refusedText (numberOf r) p (bitOf r) ∷ []
     unfolding printedBy printedText
     line r p o = rw o
 
@@ -197,6 +204,8 @@ module _ (job : List ℕ) where
           unsized = λ h. run-unsized job s (unsized s (λ z. h (lengths-of s z)));
           kept = λ r p o. refused r p o .0;
           tabled = λ r p o. ⊎-elim (λ q. rw q) (λ e. or-right (eqb (numberOf r) 9) _ (tabled r p e)) (refused r p o .1);
+          issue = λ r p o. told-by r p o .0;
+          bit = λ r p o. told-by r p o .1;
           line = line;
           written = run-written job s;
         }

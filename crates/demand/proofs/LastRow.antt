@@ -7,7 +7,7 @@ use Rattle.cells.specs.State.{State}
 use Rattle.cells.specs.Tests.{oneOf}
 use Rattle.word.specs.Table.{Row, table}
 use Rattle.word.specs.Operands.{opcodeOf, operandsOf}
-use Rattle.word.specs.Word.{rowOf, unknownIn, unknownOpcode, unnamedBit, wordOperands, operandsIn, readAs, readWord}
+use Rattle.word.specs.Word.{rowOf, unknownIn, unknownOpcode, unnamedBit, offendingBit, wordOperands, operandsIn, readAs, readWord}
 use Rattle.word.specs.declared.Class.{Class}
 use Rattle.word.specs.declared.Class.the-variants as class
 use Rattle.word.specs.declared.Refusal.the-variants.{UnknownOpcode, UnnamedBit}
@@ -71,7 +71,7 @@ module _ (c : Control) (t w : ℕ) where
   read-last : unknownOpcode w ≡ false → unnamedBit w ≡ false → controlAfter c t w .last ≡ cond (oneOf (opcodeOf w) rowLeaving) (rowA c t) (c .last)
   unfolding controlAfter acting readWord unknownOpcode
   read-last u b =
-      (λ i. recordAfter c t (actingOf (readAs (u i) (b i) (wordOperands w))) .last) ∙ go (rowOf w) refl
+      (λ i. recordAfter c t (actingOf (readAs (u i) (b i) (offendingBit w) (wordOperands w))) .last) ∙ go (rowOf w) refl
     where
       go : (x : Option Row) → rowOf w ≡ x → recordAfter c t (wordOperands w) .last ≡ cond (oneOf (opcodeOf w) rowLeaving) (rowA c t) (c .last)
       go none e = absurd (false≢true (sym u ∙ ap unknownIn e))
@@ -82,7 +82,7 @@ module _ (c : Control) (t w : ℕ) (s : State) where
   unfolding steppedOf brokenRule rules operandRules
   done-last e =
       let q = step-demand1 c t w s .unbroken e in
-      ap (λ (v : Verdict). ifDone v (controlAfter c t w) c .last) e ∙ read-last c t w (or-off (unknownOpcode w) _ (q UnknownOpcode) .0) (or-off (unnamedBit w) _ (q UnnamedBit) .0)
+      ap (λ (v : Verdict). ifDone v (controlAfter c t w) c .last) e ∙ read-last c t w (or-off (unknownOpcode w) _ (q UnknownOpcode) .0) (or-off (unnamedBit w) _ (q (UnnamedBit 0)) .0)
 
   stays-last : oneOf (opcodeOf w) rowLeaving ≡ false → (v : Verdict) → verdictOf c t w s ≡ v → steppedOf c t w s .control .last ≡ c .last
   stays-last h verdict.Done e = done-last e ∙ ap (λ (b : Bool). cond b (rowA c t) (c .last)) h

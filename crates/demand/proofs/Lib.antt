@@ -4,6 +4,7 @@ mod Tags
 mod Cutting
 mod Shapes
 mod Rules
+pub mod Bits
 mod MarksStay
 mod Agreement
 mod FieldAgrees

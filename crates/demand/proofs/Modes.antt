@@ -37,7 +37,8 @@ use Rattle.walk.specs.FieldRecord.{fieldControl}
 use Rattle.precheck.specs.Marking.{fieldMarks}
 use Rattle.demand.specs.Breaks.{brokenRule, breaks, isIssue}
 use Rattle.demand.specs.Demand.{InBf16, InFp32, Unmodelled, SettingsModes, WordModes}
-use Rattle.demand.proofs.Steps.{judged, refused-by}
+use Rattle.step.proofs.Verdicts.{refused-by}
+use Rattle.demand.proofs.Steps.{judged}
 use Rattle.demand.proofs.Widths.{Wide}
 
 -- ---- the modes, as they are spelled out and as the rules test them

@@ -62,7 +62,7 @@ unfolding rankFrom
 rank-from StateLength = refl
 rank-from Shape = refl
 rank-from UnknownOpcode = refl
-rank-from UnnamedBit = refl
+rank-from (UnnamedBit i) = refl
 rank-from UndefinedMode = refl
 rank-from UnmodelledSettings = refl
 rank-from BankOwner = refl
@@ -77,7 +77,7 @@ pub ranks : (r : Refusal) → Ranks r
 ranks StateLength = record { rank = λ e. absurd (false≢true e) }
 ranks Shape = record { rank = λ e. absurd (false≢true e) }
 ranks UnknownOpcode = record { rank = λ e. refl }
-ranks UnnamedBit = record { rank = λ e. refl }
+ranks (UnnamedBit i) = record { rank = λ e. refl }
 ranks UndefinedMode = record { rank = λ e. refl }
 ranks UnmodelledSettings = record { rank = λ e. refl }
 ranks BankOwner = record { rank = λ e. refl }

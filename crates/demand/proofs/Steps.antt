@@ -2,7 +2,7 @@
 use mathlib.Core.Path.{_≡_, refl, sym, ap, _∙_}
 use mathlib.Core.Bool.{Bool, true, false, cond, _&&_, false≢true}
 use mathlib.Core.List.{[], _∷_}
-use mathlib.Core.Logic.{_⊎_, inl, inr, ⊎-elim, _≢_}
+use mathlib.Core.Logic.{⊎-elim, _≢_}
 use Prim.Native.Nat.{ℕ, _<_}
 use native.Mathlib.Omega.{arith}
 use borrow.Author.Tests.{ltb-true, lt-ltb}
@@ -21,10 +21,12 @@ use Rattle.cells.specs.State.{State, sized}
 use Rattle.cells.proofs.Cells.{split, both}
 use Rattle.cells.proofs.Sizes.{Sizes, sizes, sized-of, unsized}
 use Rattle.step.specs.Step.{verdictOf, steppedOf, stateOf, stepAnswer}
+use Rattle.step.proofs.Verdicts.{refused-by, step-bit}
 use Rattle.demand.specs.Breaks.{brokenRule}
 use Rattle.demand.specs.Demand.{stepNumbers, Lengths, StepDemand1}
 use Rattle.demand.specs.RecordRange.{RecordIn}
 use Rattle.demand.proofs.Ranges.{record-ok, record-in}
+use Rattle.demand.proofs.Bits.{told-of}
 use Rattle.demand.proofs.Rules.{never, none-broken, rising, Lowest, lowest-is, lowest-numbered}
 
 differ : {A : Type 0} → _≡_ {A = ℕ} 0 1 → A
@@ -42,19 +44,8 @@ unfolding judgement rules operandRules
 judged-numbered c t w r e = lowest-numbered stepNumbers (rules c t w) r refl e
 
 module _ (c : Control) (t w : ℕ) (s : State) where
-  -- by a rule, or 1, or 9
-  pub refused-by : (r : Refusal) → verdictOf c t w s ≡ Refused r → (judgement c t w ≡ Refused r) ⊎ ((numberOf r ≡ 1) ⊎ (numberOf r ≡ 9))
-  unfolding verdictOf
-  refused-by r e = go (sized s) (inRange c && ltb t threadCount) e
-    where
-      go : (size range : Bool) → cond size (cond range (judgement c t w) (Refused Shape)) (Refused StateLength) ≡ Refused r
-          → (judgement c t w ≡ Refused r) ⊎ ((numberOf r ≡ 1) ⊎ (numberOf r ≡ 9))
-      go true true e = inl e
-      go true false e = let q : Shape ≡ r = cc in inr (inl (sym (ap numberOf q)))
-      go false range e = let q : StateLength ≡ r = cc in inr (inr (sym (ap numberOf q)))
-
   tabled : (r : Refusal) → verdictOf c t w s ≡ Refused r → oneOf (numberOf r) stepNumbers ≡ true
-  tabled r e = ⊎-elim (judged-numbered c t w r) (⊎-elim (λ q. ap member q) (λ q. ap member q)) (refused-by r e)
+  tabled r e = ⊎-elim (judged-numbered c t w r) (⊎-elim (λ q. ap member q) (λ q. ap member q)) (refused-by c t w s r e)
     where
       member : ℕ → Bool
       member n = oneOf n stepNumbers
@@ -130,6 +121,7 @@ module _ (c : Control) (t w : ℕ) (s : State) where
         kept = λ r e. rw e;
         record-kept = λ r e. rw e;
         tabled = tabled;
+        bit = λ r e. told-of w r (step-bit c t w s r e);
         answered = λ r e. rw e;
         answered-done = λ e. rw e;
         nine = nine;

@@ -1,16 +1,16 @@
 -- Demand 3 in one piece, for every list of bytes, with no hypothesis on the job; demand 1 for the pre-check, the job run and the single step;
--- which numbers the two Dst modes leave; and which instructions set the last SrcA row. Definitions only.
+-- which numbers the two Dst modes leave; and which instructions set the last SrcA row. A refusal 3 is number, place and bit. Definitions only.
 use mathlib.Core.Path.{_≡_}
 use mathlib.Core.Bool.{true, false}
 use mathlib.Core.List.{List, [], _∷_, map}
 use mathlib.Core.Logic.{_⊎_, _≢_}
 use mathlib.Core.Option.{Option, none, some}
-use Prim.Native.Nat.{ℕ, suc, _≤_, _<_}
+use Prim.Native.Nat.{ℕ, suc, _+_, _≤_, _<_}
 use lib.Bits.{bitAnd}
 use lib.Dec.{ltb}
 use lib.ListN.{length, getD}
 use Rattle.cells.specs.declared.Width.the-variants.{Bits16}
-use Rattle.word.specs.Refusal.{done, refused, numberOf, rankOf}
+use Rattle.word.specs.Refusal.{done, refused, numberOf, bitOf, rankOf}
 use Rattle.word.specs.Operands.{opcodeOf}
 use Rattle.word.specs.Word.{wordOperands}
 use Rattle.word.specs.declared.MultiplyWord.{MultiplyWord}
@@ -25,6 +25,7 @@ use Rattle.rules.specs.declared.Verdict.the-variants as verdict
 use Rattle.cells.specs.State.{State}
 use Rattle.cells.specs.Tests.{oneOf}
 use Rattle.step.specs.Step.{verdictOf, steppedOf, stateOf, stepAnswer}
+use Rattle.job.specs.Bytes.{le4}
 use Rattle.job.specs.Fields.{payloadAt, jobWidth, fieldsFrom}
 use Rattle.job.specs.Settings.{settled}
 use Rattle.job.specs.Values.{OtherValues}
@@ -38,6 +39,7 @@ use Rattle.lines.specs.Printed.{printedOf, textsOf}
 use Rattle.run.specs.declared.Outcome.the-variants.{Finished, Refused}
 use Rattle.demand.specs.WellShaped.{WellShaped, fieldsOf, tagged, FirstWrong}
 use Rattle.demand.specs.RecordRange.{RecordIn}
+use Rattle.demand.specs.Offending.{BitTold}
 use Rattle.demand.specs.Meetings.{Meeting, meetingAt, Goes, leaves}
 use Rattle.demand.specs.Breaks.{brokenRule, breaks, FirstBroken, issueFields}
 
@@ -84,6 +86,10 @@ pub data Named (job : List ℕ) (r : Refusal) (p : ℕ) : Type 0 where
   shape : r ≡ Shape → FirstWrong job p → Named job r p
   rule : WellShaped job → FirstBroken job start (unset (jobWidth job)) (fieldsFrom job 0) r p → Named job r p
 
+-- the word in the issue field at a place: after tag, two bytes of length and thread
+abbrev pub wordIn : List ℕ → ℕ → ℕ
+wordIn job p = le4 job (p + 4)
+
 pub record Demand3 (job : List ℕ) : Type 0 where
   -- a job passes exactly when its shape is right and no field breaks a rule
   pub right : (n : ℕ) → precheckOf job ≡ checked.Passed n → WellShaped job
@@ -108,7 +114,10 @@ pub record Demand3 (job : List ℕ) : Type 0 where
   pub found : (r : Refusal) (p : ℕ) → precheckOf job ≡ checked.Refused r p → Named job r p
   -- with one of the numbers 1 to 8
   pub named : (r : Refusal) (p : ℕ) → precheckOf job ≡ checked.Refused r p → oneOf (numberOf r) jobNumbers ≡ true
-  -- and a run over any state of the right sizes refuses it with the same number and place, and leaves the state
+  -- number 3 is given at an issue field and has exactly the lowest offending bit of its word; no other number has a bit
+  pub issue : (r : Refusal) (p : ℕ) → precheckOf job ≡ checked.Refused r p → numberOf r ≡ 3 → getD job p 0 ≡ 5
+  pub bit : (r : Refusal) (p : ℕ) → precheckOf job ≡ checked.Refused r p → BitTold (wordIn job p) r
+  -- and a run over any state of the right sizes refuses it with the same number, place and bit, and leaves the state
   pub refuses : (r : Refusal) (p : ℕ) → precheckOf job ≡ checked.Refused r p → (s : State) → Lengths s → runOf job s ≡ ran (Refused r p) s
   -- other permitted values in the load fields leave the answer as it is; where the shape is wrong, in those before its first wrong place
   pub values : WellShaped job → (other : List ℕ) → OtherValues (λ f. true) job other → precheckOf other ≡ precheckOf job
@@ -122,8 +131,11 @@ pub record Demand1 (job : List ℕ) (s : State) : Type 0 where
   pub unsized : (Lengths s → ⊥) → runOf job s ≡ ran (Refused StateLength 0) s
   pub kept : (r : Refusal) (p : ℕ) → runOf job s .outcome ≡ Refused r p → runOf job s .state ≡ s
   pub tabled : (r : Refusal) (p : ℕ) → runOf job s .outcome ≡ Refused r p → oneOf (numberOf r) runNumbers ≡ true
+  -- number 3 is given at an issue field and has exactly the lowest offending bit of its word; no other number has a bit
+  pub issue : (r : Refusal) (p : ℕ) → runOf job s .outcome ≡ Refused r p → numberOf r ≡ 3 → getD job p 0 ≡ 5
+  pub bit : (r : Refusal) (p : ℕ) → runOf job s .outcome ≡ Refused r p → BitTold (wordIn job p) r
   -- all that a refused run prints is the refusal's line
-  pub line : (r : Refusal) (p : ℕ) → runOf job s .outcome ≡ Refused r p → textsOf job (runOf job s) ≡ refusedText (numberOf r) p ∷ []
+  pub line : (r : Refusal) (p : ℕ) → runOf job s .outcome ≡ Refused r p → textsOf job (runOf job s) ≡ refusedText (numberOf r) p (bitOf r) ∷ []
   -- a loop over the next text, in turns enough, writes all that the run prints, refused or finished: each text whole, once, in order
   pub written : (n : ℕ) → length (textsOf job (runOf job s)) ≤ n
       → map bytesIn (loopTexts n job (runOf job s .outcome) startCursor (runOf job s .state)) ≡ textsOf job (runOf job s)
@@ -133,8 +145,10 @@ pub record StepDemand1 (c : Control) (t w : ℕ) (s : State) : Type 0 where
   pub kept : (r : Refusal) → verdictOf c t w s ≡ verdict.Refused r → stateOf c t w s ≡ s
   pub record-kept : (r : Refusal) → verdictOf c t w s ≡ verdict.Refused r → steppedOf c t w s .control ≡ c
   pub tabled : (r : Refusal) → verdictOf c t w s ≡ verdict.Refused r → oneOf (numberOf r) stepNumbers ≡ true
+  -- 3 has exactly the lowest offending bit of the word; no other number has a bit
+  pub bit : (r : Refusal) → verdictOf c t w s ≡ verdict.Refused r → BitTold w r
   -- in numbers, always at place 0
-  pub answered : (r : Refusal) → verdictOf c t w s ≡ verdict.Refused r → stepAnswer c t w s ≡ refused (numberOf r) 0
+  pub answered : (r : Refusal) → verdictOf c t w s ≡ verdict.Refused r → stepAnswer c t w s ≡ refused (numberOf r) 0 (bitOf r)
   pub answered-done : verdictOf c t w s ≡ verdict.Done → stepAnswer c t w s ≡ done
   -- 9 exactly when a length is wrong
   pub nine : (Lengths s → ⊥) → verdictOf c t w s ≡ verdict.Refused StateLength

@@ -8,9 +8,9 @@ use Rattle.cells.specs.declared.Width.the-variants.{Bits32, Bits16}
 use Rattle.cells.specs.Places.{halfAt, getAt}
 use Rattle.cells.specs.State.{state}
 use Rattle.lines.specs.Lines.{value, columns, outputLines, fieldLines, linesFrom, linesOf}
-use Rattle.word.specs.Refusal.{numberOf}
-use Rattle.word.specs.declared.Refusal.the-variants.{UnsetRead}
-use Rattle.lines.specs.Text.{pushed, wrote, emptyText, made, decimalUpTo, decimal, hexDigit, hex, values, textOf, lineOf, finishedText, refusedText}
+use Rattle.word.specs.Refusal.{numberOf, bitOf}
+use Rattle.word.specs.declared.Refusal.the-variants.{UnnamedBit, UnsetRead}
+use Rattle.lines.specs.Text.{pushed, wrote, emptyText, made, decimalUpTo, decimal, hexDigit, hex, values, textOf, lineOf, finishedText, bitText, refusedText}
 use Rattle.job.specs.Fields.{jobWidth, fieldAt, fieldsUpTo, fieldsFrom}
 use Rattle.job.specs.Kinds.{settingsKind, loadRegister, issue, outputRows, outputRegister, readKind}
 use Rattle.job.specs.Settings.{slotOf, threadRight, settingsRight}
@@ -32,9 +32,15 @@ unfolding textOf lineOf decimal decimalUpTo values hex hexDigit
 register-0-3 = refl
 
 -- `refused 8 at 180`
-refused-8 : refusedText (numberOf UnsetRead) 180 ≡ 114 ∷ 101 ∷ 102 ∷ 117 ∷ 115 ∷ 101 ∷ 100 ∷ 32 ∷ 56 ∷ 32 ∷ 97 ∷ 116 ∷ 32 ∷ 49 ∷ 56 ∷ 48 ∷ 10 ∷ []
-unfolding refusedText decimal decimalUpTo
+refused-8 : refusedText (numberOf UnsetRead) 180 (bitOf UnsetRead) ≡ 114 ∷ 101 ∷ 102 ∷ 117 ∷ 115 ∷ 101 ∷ 100 ∷ 32 ∷ 56 ∷ 32 ∷ 97 ∷ 116 ∷ 32 ∷ 49 ∷ 56 ∷ 48 ∷ 10 ∷ []
+unfolding bitText refusedText decimal decimalUpTo
 refused-8 = refl
+
+-- `refused 3 at 172 bit 16`
+refused-3 : refusedText (numberOf (UnnamedBit 16)) 172 (bitOf (UnnamedBit 16))
+    ≡ 114 ∷ 101 ∷ 102 ∷ 117 ∷ 115 ∷ 101 ∷ 100 ∷ 32 ∷ 51 ∷ 32 ∷ 97 ∷ 116 ∷ 32 ∷ 49 ∷ 55 ∷ 50 ∷ 32 ∷ 98 ∷ 105 ∷ 116 ∷ 32 ∷ 49 ∷ 54 ∷ 10 ∷ []
+unfolding bitText refusedText decimal decimalUpTo
+refused-3 = refl
 
 -- `D 1 deadbeef 00000000 ..`, sixteen values: row 1 begins at place 16
 row-1 : textOf (lineOf (Row Bits32 1) (replicate 16 7 ++ 0xDEADBEEF ∷ []) [])

@@ -8,7 +8,7 @@ use Rattle.cells.specs.declared.Width.{Width}
 use Rattle.cells.specs.Layout.{register}
 use Rattle.cells.specs.Places.{rowCount}
 use Rattle.cells.specs.State.{State}
-use Rattle.word.specs.Refusal.{numberOf}
+use Rattle.word.specs.Refusal.{numberOf, bitOf}
 use Rattle.job.specs.Range.{RowsIn, OutputIn, InRange}
 use Rattle.job.specs.Fields.{fieldsFrom, EachField}
 use Rattle.job.specs.declared.Output.{Output}
@@ -22,11 +22,11 @@ use Rattle.run.specs.declared.Outcome.{Outcome}
 use Rattle.run.specs.declared.Outcome.the-variants.{Finished, Refused}
 use Rattle.run.proofs.SmallAnswers.{Small, run-small}
 use Rattle.lines.specs.Lines.{Line, row, value, columns, rowLines, outputLines, fieldLines, linesFrom, linesOf}
-use Rattle.lines.specs.Text.{made, bytesIn, textOf, finishedText, refusedText, wordFinished, wordRefused, wordAt}
+use Rattle.lines.specs.Text.{made, bytesIn, textOf, finishedText, bitText, refusedText, wordFinished, wordRefused, wordAt}
 use Rattle.lines.specs.Printed.{Printed, finished, refused, line, printedBy, printedOf, printedText, textsOf}
 use Rattle.lines.specs.Cursor.{startCursor, loopTexts}
 use Rattle.lines.specs.declared.Text.{Text}
-use Rattle.lines.proofs.Texts.{made-holds, number-short, numbers-short, row-short, value-short}
+use Rattle.lines.proofs.Texts.{made-holds, number-short, numbers-short, bit-short, row-short, value-short}
 use Rattle.lines.proofs.Cursors.{rows-few}
 use Rattle.lines.proofs.Giving.{written-all}
 
@@ -79,7 +79,7 @@ fit-run : (job : List ℕ) (o : Outcome) (s : State) → Small (outcomeAnswer o)
 unfolding printedBy printedText finishedText refusedText linesOf
 fit-run job (Finished n) s h = (number-short wordFinished n (omega arith) (omega arith), fit-lines job (fieldsFrom job 0) s (sound job 0))
 fit-run job (Refused r place) s h =
-    (numbers-short wordRefused (numberOf r) (omega (arith, h .0)) (omega arith) wordAt place (omega (arith, h .1)) (omega arith), tt)
+    (numbers-short wordRefused (numberOf r) (omega (arith, h .0)) (omega arith) wordAt place (omega (arith, h .1)) (omega arith) (bitText (bitOf r)) (bit-short (bitOf r) (omega (arith, h .2 .1))), tt)
 
 length-map : {A B : Type 0} (f : A → B) (l : List A) → length (map f l) ≡ length l
 length-map f [] = refl

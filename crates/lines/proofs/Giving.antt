@@ -9,7 +9,7 @@ use lib.Dec.{ltb}
 use lib.ListN.{length}
 use Rattle.cells.specs.State.{State, state}
 use Rattle.cells.proofs.Cells.{split}
-use Rattle.word.specs.Refusal.{numberOf}
+use Rattle.word.specs.Refusal.{numberOf, bitOf}
 use Rattle.word.specs.declared.Refusal.{Refusal}
 use Rattle.job.specs.Fields.{fieldsFrom}
 use Rattle.job.specs.declared.Field.{Field}
@@ -77,7 +77,7 @@ module _ (job : List ℕ) (s : State) where
   first-finished n c e = rw e (ap (λ (l : List Line). finished n ∷ map line l) (sym (lines-at-start job s)))
 
   pub first-refused : (r : Refusal) (place : ℕ) (c : Cursor) → c .answered ≡ false
-      → printedFrom job (Refused r place) c s ≡ refused (numberOf r) place ∷ printedFrom job (Refused r place) answeredCursor s
+      → printedFrom job (Refused r place) c s ≡ refused (numberOf r) place (bitOf r) ∷ printedFrom job (Refused r place) answeredCursor s
   unfolding printedFrom printedBy
   first-refused r place c e = rw e
 
@@ -210,13 +210,13 @@ module _ (job dst registers : List ℕ) (c : Cursor) where
       )
 
   pub told-refused : (o : Outcome) (r : Refusal) (place : ℕ) → o ≡ Refused r place → c .answered ≡ false → (text : Text)
-      → text ≡ made (refusedText (numberOf r) place) → Holds text (refusedText (numberOf r) place)
+      → text ≡ made (refusedText (numberOf r) place (bitOf r)) → Holds text (refusedText (numberOf r) place (bitOf r))
       → (x : Next) → x ≡ record { end = false; text = text; after = answeredCursor } → Told o x (nextOf job o c dst registers)
   unfolding nextOf printedText
   told-refused o r place q y text t h x p =
       rw (q, p) (
         ap (λ (u : Text). record { end = false; text = u; after = answeredCursor }) t ∙ sym (when-false (c .answered) _ _ y),
-        λ a b. gives job (Refused r place) c (state a b dst registers) (refused (numberOf r) place) answeredCursor text h (first-refused job (state a b dst registers) r place c y),
+        λ a b. gives job (Refused r place) c (state a b dst registers) (refused (numberOf r) place (bitOf r)) answeredCursor text h (first-refused job (state a b dst registers) r place c y),
       )
 
   pub told-no-more : (o : Outcome) (r : Refusal) (place : ℕ) → o ≡ Refused r place → c .answered ≡ true → (x : Next) → x ≡ nextEnd c → Told o x (nextOf job o c dst registers)

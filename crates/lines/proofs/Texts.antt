@@ -1,6 +1,7 @@
 -- Writing to a text: one list after another, decimal and hexadecimal numbers, and what a text holds in the end. Assumes nothing.
 use mathlib.Core.Path.{_≡_, refl, sym, ap, _∙_}
 use mathlib.Core.List.{List, [], _∷_, _++_, append-nil, append-assoc}
+use mathlib.Core.Option.{Option, none, some}
 use Prim.Native.Nat.{ℕ, zero, suc, _+_, _*_, _-_, _/_, _%_, _^_, _≤_, _<_}
 use native.Mathlib.Omega.{arith}
 use native.Mathlib.Numerals.{add-one}
@@ -12,8 +13,9 @@ use Rattle.cells.specs.declared.Width.{Width}
 use Rattle.cells.specs.declared.Width.the-variants.{Bits32, Bits16}
 use Rattle.cells.specs.Places.{digitsOf, getAt}
 use Rattle.cells.proofs.Cells.{split}
+use Rattle.word.specs.Refusal.{bitNumber}
 use Rattle.lines.specs.Lines.{row, value, columns}
-use Rattle.lines.specs.Text.{emptyText, pushed, wrote, made, Holds, decimalUpTo, decimal, hexDigit, hex, values, wordRow, wordRegister, textOf}
+use Rattle.lines.specs.Text.{emptyText, pushed, wrote, made, Holds, decimalUpTo, decimal, hexDigit, hex, values, wordRow, wordRegister, textOf, bitText}
 use Rattle.lines.specs.declared.Text.{Text}
 
 -- ---- one list after another
@@ -163,7 +165,7 @@ unfolding columns
 length-columns w l r k zero = refl
 length-columns w l r k (suc n) = ap suc (length-columns w l r (suc k) n)
 
--- ---- the texts: a word and a number; two of each; a word, a number and values
+-- ---- the texts: a word and a number; two of each and a bit; a word, a number and values
 
 -- nothing printed is wider than 64 bits
 fits-20 : (n : ℕ) → n < 2 ^ 64 → length (decimal n) ≤ 20
@@ -173,17 +175,22 @@ module _ (w : List ℕ) (n : ℕ) (fits : n < 2 ^ 64) (h : length w ≤ 20) wher
   pub number-short : length (w ++ decimal n ++ 10 ∷ []) ≤ 160
   number-short = simp length-append (omega (arith, fits-20 n fits))
 
-  pub numbers-short : (v : List ℕ) (p : ℕ) → p < 2 ^ 64 → length v ≤ 20 → length (w ++ decimal n ++ v ++ decimal p ++ 10 ∷ []) ≤ 160
-  numbers-short v p f k = simp length-append (omega (arith, fits-20 n fits, fits-20 p f))
+  pub numbers-short : (v : List ℕ) (p : ℕ) → p < 2 ^ 64 → length v ≤ 20 → (x : List ℕ) → length x ≤ 40 → length (w ++ decimal n ++ v ++ decimal p ++ x ++ 10 ∷ []) ≤ 160
+  numbers-short v p f k x j = simp length-append (omega (arith, fits-20 n fits, fits-20 p f))
 
   pub number-text : (r : Text) → r ≡ pushed (wrote (wrote emptyText w) (decimal n)) 10
       → (r ≡ made (w ++ decimal n ++ 10 ∷ [])) × Holds r (w ++ decimal n ++ 10 ∷ [])
   number-text r e = whole r _ number-short (e ∙ simp (wrote-one, wrote-append, append-assoc))
 
-  pub numbers-text : (v : List ℕ) (p : ℕ) → p < 2 ^ 64 → length v ≤ 20 → (r : Text)
-      → r ≡ pushed (wrote (wrote (wrote (wrote emptyText w) (decimal n)) v) (decimal p)) 10
-      → (r ≡ made (w ++ decimal n ++ v ++ decimal p ++ 10 ∷ [])) × Holds r (w ++ decimal n ++ v ++ decimal p ++ 10 ∷ [])
-  numbers-text v p f k r e = whole r _ (numbers-short v p f k) (e ∙ simp (wrote-one, wrote-append, append-assoc))
+  pub numbers-text : (v : List ℕ) (p : ℕ) → p < 2 ^ 64 → length v ≤ 20 → (x : List ℕ) → length x ≤ 40 → (r : Text)
+      → r ≡ pushed (wrote (wrote (wrote (wrote (wrote emptyText w) (decimal n)) v) (decimal p)) x) 10
+      → (r ≡ made (w ++ decimal n ++ v ++ decimal p ++ x ++ 10 ∷ [])) × Holds r (w ++ decimal n ++ v ++ decimal p ++ x ++ 10 ∷ [])
+  numbers-text v p f k x j r e = whole r _ (numbers-short v p f k x j) (e ∙ simp (wrote-one, wrote-append, append-assoc))
+
+pub bit-short : (i : Option ℕ) → bitNumber i < 2 ^ 64 → length (bitText i) ≤ 40
+unfolding bitText
+bit-short none h = omega arith
+bit-short (some i) h = simp length-append (omega (arith, fits-20 i h))
 
 pub row-short : (w : Width) (l : List ℕ) (i : ℕ) → i < 2 ^ 32 → length (textOf (row w i (columns w l i 0 16))) ≤ 160
 unfolding textOf

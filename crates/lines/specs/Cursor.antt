@@ -13,7 +13,7 @@ use Rattle.job.specs.declared.Kind.{Kind}
 use Rattle.job.specs.declared.Kind.the-variants as kind
 use Rattle.job.specs.declared.Field.{Field}
 use Rattle.cells.specs.State.{State}
-use Rattle.word.specs.Refusal.{numberOf}
+use Rattle.word.specs.Refusal.{numberOf, bitOf}
 use Rattle.run.specs.declared.Outcome.{Outcome}
 use Rattle.run.specs.declared.Outcome.the-variants.{Finished, Refused}
 use Rattle.lines.specs.Lines.{Line, linesFrom}
@@ -87,7 +87,7 @@ lineNext c (found.Line w after) dst registers = give (line (lineOf w dst registe
 -- the answer first; then the lines of a finished job
 unfoldable pub nextOf : List ℕ → Outcome → Cursor → List ℕ → List ℕ → Next
 nextOf job (Finished n) c dst registers = cond (c .answered) (lineNext c (nextLine job c) dst registers) (give (finished n) answeredCursor)
-nextOf job (Refused r place) c dst registers = cond (c .answered) (nextEnd c) (give (refused (numberOf r) place) answeredCursor)
+nextOf job (Refused r place) c dst registers = cond (c .answered) (nextEnd c) (give (refused (numberOf r) place (bitOf r)) answeredCursor)
 
 -- ---- that these are all, each once, in order
 

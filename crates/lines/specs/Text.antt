@@ -4,6 +4,7 @@
 use mathlib.Core.Bool.{cond}
 use mathlib.Core.Path.{_≡_}
 use mathlib.Core.List.{List, [], _∷_, _++_}
+use mathlib.Core.Option.{Option, none, some}
 use Prim.Native.Nat.{ℕ, zero, suc, _+_, _/_, _%_, _≤_}
 use lib.Dec.{ltb}
 use lib.ListN.{length, getD, set, take, replicate}
@@ -76,12 +77,15 @@ wordFinished = 102 ∷ 105 ∷ 110 ∷ 105 ∷ 115 ∷ 104 ∷ 101 ∷ 100 ∷ 3
 abbrev pub wordPassed : List ℕ
 wordPassed = 112 ∷ 97 ∷ 115 ∷ 115 ∷ 101 ∷ 100 ∷ 32 ∷ []
 
--- `refused `, ` at `
+-- `refused `, ` at `, ` bit `
 abbrev pub wordRefused : List ℕ
 wordRefused = 114 ∷ 101 ∷ 102 ∷ 117 ∷ 115 ∷ 101 ∷ 100 ∷ 32 ∷ []
 
 abbrev pub wordAt : List ℕ
 wordAt = 32 ∷ 97 ∷ 116 ∷ 32 ∷ []
+
+abbrev pub wordBit : List ℕ
+wordBit = 32 ∷ 98 ∷ 105 ∷ 116 ∷ 32 ∷ []
 
 -- ---- lines
 
@@ -105,8 +109,13 @@ lineOf (what.Register t r) dst registers = value t r (getD registers (register t
 unfoldable pub finishedText : ℕ → List ℕ
 finishedText n = wordFinished ++ decimal n ++ 10 ∷ []
 
-unfoldable pub refusedText : ℕ → ℕ → List ℕ
-refusedText n p = wordRefused ++ decimal n ++ wordAt ++ decimal p ++ 10 ∷ []
+-- `refused 8 at 180`; with a bit `refused 3 at 172 bit 16`
+unfoldable pub bitText : Option ℕ → List ℕ
+bitText none = []
+bitText (some i) = wordBit ++ decimal i
+
+unfoldable pub refusedText : ℕ → ℕ → Option ℕ → List ℕ
+refusedText n p i = wordRefused ++ decimal n ++ wordAt ++ decimal p ++ bitText i ++ 10 ∷ []
 
 unfoldable pub passedText : ℕ → List ℕ
 passedText n = wordPassed ++ decimal n ++ 10 ∷ []

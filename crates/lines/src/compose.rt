@@ -9,8 +9,8 @@ use crate::write::push_word;
 use cells::Width;
 use word::Refusal;
 ghost use mathlib.Core.Path.{_≡_};
-ghost use Rattle.word.specs.Refusal.{numberOf};
-ghost use Rattle.lines.specs.Text.{emptyText, made, Holds, textOf, lineOf, finishedText, refusedText, passedText};
+ghost use Rattle.word.specs.Refusal.{numberOf, bitOf, bitBy};
+ghost use Rattle.lines.specs.Text.{emptyText, wrote, made, Holds, textOf, lineOf, finishedText, bitText, refusedText, passedText};
 
 pub(crate) fn empty() -> Text
     ensures { λ r. ⌜ r ≡ emptyText ⌝ }
@@ -48,13 +48,26 @@ pub(crate) fn finished_text(count: usize) -> Text
     push(push_decimal(push_word(empty(), b"finished "), count), 10)
 }
 
+// ` bit 16` of a refusal 3; of any other number nothing.
+fn push_bit(t: Text, number: u8, bit: u8) -> Text
+    ensures { λ r. ⌜ r ≡ wrote t (bitText (bitBy number bit)) ⌝ }
+{
+    if number == 3 {
+        return push_decimal(push_word(t, b" bit "), bit as usize);
+    }
+    t
+}
+
+// `refused 8 at 180`, or `refused 3 at 172 bit 16`.
 pub(crate) fn refused_text(refusal: Refusal, place: usize) -> Text
-    ensures whole { λ r. ⌜ r ≡ made (refusedText (numberOf refusal) place) ⌝ }
-    ensures first { λ r. ⌜ Holds r (refusedText (numberOf refusal) place) ⌝ }
+    ensures whole { λ r. ⌜ r ≡ made (refusedText (numberOf refusal) place (bitOf refusal)) ⌝ }
+    ensures first { λ r. ⌜ Holds r (refusedText (numberOf refusal) place (bitOf refusal)) ⌝ }
 {
     let number = word::number(refusal);
+    let bit = word::bit(refusal);
     let t = push_decimal(push_word(empty(), b"refused "), number as usize);
-    push(push_decimal(push_word(t, b" at "), place), 10)
+    let placed = push_decimal(push_word(t, b" at "), place);
+    push(push_bit(placed, number, bit), 10)
 }
 
 pub(crate) fn passed_text(count: usize) -> Text

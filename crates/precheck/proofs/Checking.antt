@@ -17,7 +17,7 @@ use Rattle.rules.specs.After.{recordAfter}
 use Rattle.rules.specs.Rules.{lowest}
 use Rattle.rules.specs.declared.Verdict.{Verdict}
 use Rattle.rules.specs.declared.Verdict.the-variants as verdict
-use Rattle.job.specs.Fields.{jobWidth, fieldAt, fieldsFrom}
+use Rattle.job.specs.Fields.{jobWidth, fieldAt, fieldsFrom, EachField}
 use Rattle.job.specs.Shape.{shapeOf}
 use Rattle.job.specs.declared.Shape.{Shape}
 use Rattle.job.specs.declared.Shape.the-variants as shape
@@ -62,6 +62,23 @@ module _ (job : List ℕ) (f : Field) (fs : List Field) (c : Control) (m : Marks
       go : (v : Verdict) (next : Checked) → unlessBroken v (f .place) next ≡ Passed k → (v ≡ verdict.Done) × (next ≡ Passed k)
       go verdict.Done next e = (refl, e)
       go (verdict.Refused r) next e = absurd (let z : _≡_ {A = ℕ} 0 1 = cc in omega arith)
+
+-- what each field has that breaks a rule, the one that is named has
+pub check-has : (P : Refusal → ℕ → Type 0) (job : List ℕ) (fs : List Field)
+    → EachField (λ f. (c : Control) (m : Marks) (r : Refusal) → lowest (fieldRules c m (f .kind)) ≡ verdict.Refused r → P r (f .place)) fs
+    → (c : Control) (m : Marks) (n : ℕ) (r : Refusal) (p : ℕ) → checkFrom job fs c m n ≡ Refused r p → P r p
+unfolding checkFrom
+check-has P job [] h c m n r p e = absurd (let z : _≡_ {A = ℕ} 0 1 = cc in omega arith)
+check-has P job (f ∷ fs) h c m n r p e =
+    go (lowest (fieldRules c m (f .kind))) refl e
+    (check-has P job fs (h .1) (fieldControl job c (f .place) (f .kind)) (fieldMarks c m (f .kind)) (n + issueOf (f .kind)) r p)
+  where
+    go : {next : Checked} (v : Verdict) → lowest (fieldRules c m (f .kind)) ≡ v → unlessBroken v (f .place) next ≡ Refused r p → (next ≡ Refused r p → P r p) → P r p
+    go verdict.Done l e i = i e
+    go (verdict.Refused x) l e i =
+        let s : x ≡ r = cc in
+        let q : f .place ≡ p = cc in
+        rw (← s, ← q) (h .0 c m x l)
 
 -- ---- the walk's loop
 

@@ -1,7 +1,8 @@
--- A job's answer is small: its count or its place is at most 8,192. Assumes nothing.
+-- A job's answer is small: its count or its place is at most 8,192, and a bit, which refusal 3 alone has, at most 24. So is a step's bit. Assumes nothing.
 use mathlib.Core.Path.{_≡_, refl}
 use mathlib.Core.Bool.{true}
 use mathlib.Core.List.{List, [], _∷_}
+use mathlib.Core.Option.{Option, none}
 use Prim.Native.Nat.{ℕ, zero, suc, _+_, _<_, _≤_}
 use native.Mathlib.Omega.{arith}
 use borrow.Author.Tests.{ltb-true, ltb-false}
@@ -10,14 +11,18 @@ use lib.ListN.{length}
 use Rattle.cells.specs.Layout.{jobBytes}
 use Rattle.cells.specs.State.{State, sized}
 use Rattle.cells.proofs.Cells.{split}
-use Rattle.word.proofs.Numbers.{number-byte}
-use Rattle.word.specs.Refusal.{Answer, done, passed, finished, refused}
+use Rattle.word.proofs.Numbers.{number-byte, HasBit, three, other, has-bit, bit-back}
+use Rattle.word.proofs.ReadWords.{offending-most}
+use Rattle.word.specs.Refusal.{numberOf, bitOf, bitNumber, bitBy, Answer, done, passed, finished, refused}
+use Rattle.word.specs.declared.Refusal.{Refusal}
 use Rattle.word.specs.declared.Refusal.the-variants as refusal
 use Rattle.control.specs.declared.Control.{Control}
 use Rattle.control.specs.Record.{start}
 use Rattle.rules.specs.Rules.{lowest}
 use Rattle.rules.specs.declared.Verdict.{Verdict}
 use Rattle.rules.specs.declared.Verdict.the-variants as verdict
+use Rattle.step.specs.Step.{steppedOf}
+use Rattle.step.proofs.Verdicts.{step-bit}
 use Rattle.job.specs.Fields.{jobWidth, fieldAt, fieldsFrom}
 use Rattle.job.specs.Shape.{shapeOf}
 use Rattle.job.specs.declared.Field.{Field}
@@ -33,16 +38,39 @@ use Rattle.precheck.specs.Check.{unlessBroken, checkFrom, precheckOf, checkedAn
 use Rattle.precheck.specs.declared.Checked.{Checked}
 use Rattle.precheck.specs.declared.Checked.the-variants as checked
 use Rattle.precheck.proofs.Checking.{precheck-right, precheck-wrong, precheck-passed}
+use Rattle.precheck.proofs.FieldBits.{field-bit}
 use Rattle.run.specs.Perform.{stepVerdict}
 use Rattle.run.specs.Run.{Ran, unlessRefused, execute, runOf, outcomeAnswer, runAnswer}
 use Rattle.run.proofs.Running.{run-unsized, run-refused, run-passed}
+
+-- a bit beside a number
+abbrev pub SmallBit : ℕ → Option ℕ → Type 0
+SmallBit number bit = (bitBy number (bitNumber bit) ≡ bit) × (bitNumber bit ≤ 24)
 
 -- a job's answer whose count or place is at most 8,192
 abbrev pub Small : Answer → Type 0
 Small done = ⊥
 Small (passed n) = n ≤ jobBytes
 Small (finished n) = n ≤ jobBytes
-Small (refused number place) = (number < 256) × (place ≤ jobBytes)
+Small (refused number place bit) = (number < 256) × (place ≤ jobBytes) × SmallBit number bit
+
+-- a refusal whose bit, if it has one, is small
+pub bit-small : (r : Refusal) → ((i : ℕ) → r ≡ refusal.UnnamedBit i → i ≤ 24) → SmallBit (numberOf r) (bitOf r)
+bit-small r h = (bit-back r, go (has-bit r))
+  where
+    go : HasBit r → bitNumber (bitOf r) ≤ 24
+    go (three i q) = rw q (h i q)
+    go (other n b) = rw b (omega arith)
+
+-- that of one without a bit
+no-bit : (number : ℕ) → bitBy number 0 ≡ none → SmallBit number none
+no-bit number e = (e, omega arith)
+
+-- ---- the single step
+
+pub step-small : (c : Control) (t w : ℕ) (s : State) (r : Refusal) → steppedOf c t w s .verdict ≡ verdict.Refused r → SmallBit (numberOf r) (bitOf r)
+unfolding steppedOf
+step-small c t w s r e = bit-small r (λ i q. omega (arith, step-bit c t w s r e i q .1, offending-most w))
 
 -- ---- the fields of a short job
 
@@ -70,11 +98,14 @@ inside job short = go (length job) 0 0 (omega arith) (omega arith) (omega arith)
 check-small : (job : List ℕ) (fs : List Field) (c : Control) (m : Marks) (n : ℕ) → Inside n fs → Small (checkedAnswer (checkFrom job fs c m n))
 unfolding checkFrom
 check-small job [] c m n i = i
-check-small job (f ∷ fs) c m n i = go (lowest (fieldRules c m (f .kind))) _ (check-small job fs _ _ _ (i .1))
+check-small job (f ∷ fs) c m n i = go (lowest (fieldRules c m (f .kind))) refl _ (check-small job fs _ _ _ (i .1))
   where
-    go : (v : Verdict) (next : Checked) → Small (checkedAnswer next) → Small (checkedAnswer (unlessBroken v (f .place) next))
-    go verdict.Done next h = h
-    go (verdict.Refused r) next h = (number-byte r, i .0)
+    bit : (r : Refusal) → lowest (fieldRules c m (f .kind)) ≡ verdict.Refused r → (i : ℕ) → r ≡ refusal.UnnamedBit i → i ≤ 24
+    bit r e i q = let b = field-bit c m (f .kind) r e i q in omega (arith, b .bit, offending-most (b .word))
+
+    go : (v : Verdict) → lowest (fieldRules c m (f .kind)) ≡ v → (next : Checked) → Small (checkedAnswer next) → Small (checkedAnswer (unlessBroken v (f .place) next))
+    go verdict.Done e next h = h
+    go (verdict.Refused r) e next h = (number-byte r, i .0, bit-small r (bit r e))
 
 pub precheck-small : (job : List ℕ) → Small (precheckAnswer job)
 unfolding precheckAnswer
@@ -82,7 +113,7 @@ precheck-small job = go (shapeOf job) refl
   where
     go : (x : Shape) → shapeOf job ≡ x → Small (checkedAnswer (precheckOf job))
     go shape.Right e = rw (precheck-right job e) (check-small job (fieldsFrom job 0) start (unset (jobWidth job)) 0 (inside job (shaped job e .short)))
-    go (shape.WrongAt place) e = rw (precheck-wrong job place e) (number-byte refusal.Shape, shape-inside job place e)
+    go (shape.WrongAt place) e = rw (precheck-wrong job place e) (number-byte refusal.Shape, shape-inside job place e, no-bit 1 refl)
 
 -- ---- the run
 
@@ -93,11 +124,11 @@ execute-small job (f ∷ fs) c s n i = go (stepVerdict c (f .kind) s) _ (execute
   where
     go : (v : Verdict) (next : Ran) → Small (outcomeAnswer (next .outcome)) → Small (outcomeAnswer (unlessRefused v (f .place) s next .outcome))
     go verdict.Done next h = h
-    go (verdict.Refused r) next h = (number-byte refusal.StepRefused, i .0)
+    go (verdict.Refused r) next h = (number-byte refusal.StepRefused, i .0, no-bit 10 refl)
 
 pub run-small : (job : List ℕ) (s : State) → Small (runAnswer job s)
 unfolding runAnswer precheckAnswer
-run-small job s = split (sized s) (λ z. go z (precheckOf job) refl (precheck-small job)) (λ z. rw (run-unsized job s z) (number-byte refusal.StateLength, omega arith))
+run-small job s = split (sized s) (λ z. go z (precheckOf job) refl (precheck-small job)) (λ z. rw (run-unsized job s z) (number-byte refusal.StateLength, omega arith, no-bit 9 refl))
   where
     go : sized s ≡ true → (x : Checked) → precheckOf job ≡ x → Small (precheckAnswer job) → Small (outcomeAnswer (runOf job s .outcome))
     go z (checked.Passed n) e h =

@@ -11,7 +11,7 @@ use Rattle.cells.proofs.Cells.{split}
 use Rattle.word.specs.Bits.{bits, bit}
 use Rattle.word.specs.Table.{Row, table}
 use Rattle.word.specs.Operands.{opcodeOf, clearOf, whichOf, operandsOf}
-use Rattle.word.specs.Word.{rowOf, unknownIn, strayIn, operandsIn, unknownOpcode, unnamedBit, wordOperands, readAs, readWord}
+use Rattle.word.specs.Word.{rowOf, unknownIn, strayIn, offendingIn, operandsIn, unknownOpcode, unnamedBit, offendingBit, wordOperands, readAs, readWord}
 use Rattle.word.specs.Fields.{fields, digit, clearNumber, whichNumber, operandsAnswer, readAnswer, usedOpcode, rowFields, answerIn, wordAnswer}
 use Rattle.word.specs.declared.Class.the-variants as class
 use Rattle.word.proofs.Every.{Every, _and_}
@@ -69,10 +69,10 @@ right =
 -- ---- what the reader answers
 
 pub read-answer : (w : ℕ) → readAnswer (readWord w) ≡ wordAnswer w
-unfolding readWord unknownOpcode unnamedBit wordOperands wordAnswer
+unfolding readWord unknownOpcode unnamedBit offendingBit wordOperands wordAnswer
 read-answer w = by-row (rowOf w) refl
   where
-    by-row : (o : Option Row) → rowOf w ≡ o → readAnswer (readAs (unknownIn o) (strayIn o w) (operandsIn o w)) ≡ answerIn o w
+    by-row : (o : Option Row) → rowOf w ≡ o → readAnswer (readAs (unknownIn o) (strayIn o w) (offendingIn o w) (operandsIn o w)) ≡ answerIn o w
     by-row none e = refl
     by-row (some r) e =
         split (strayIn (some r) w) (λ t. rw t) (λ t. rw t (found-of Right table (opcodeOf w) r right e w (sym (found-opcode table (opcodeOf w) r e))))

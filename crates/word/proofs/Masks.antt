@@ -1,32 +1,16 @@
--- "An unnamed bit is 1", bit by bit, and by a mask. Assumes nothing.
+-- "An unnamed bit is 1" and which is the lowest, bit by bit, and by a mask. Assumes nothing.
 use mathlib.Core.Path.{_≡_, refl, sym, ap, _∙_}
-use mathlib.Core.Bool.{Bool, true, false, _&&_, _||_, not}
-use Prim.Native.Nat.{ℕ, zero, suc, min, _+_, _*_, _/_, _%_, _^_, _<_}
-use native.Mathlib.Nat.{div-one, div-div-eq-div-mul, pow-succ', two-pow-succ, le-refl, le-step}
+use mathlib.Core.Bool.{Bool, true, false, cond, _&&_, _||_, not}
+use Prim.Native.Nat.{ℕ, zero, suc, min, _+_, _-_, _*_, _/_, _%_, _^_, _<_}
+use native.Mathlib.Nat.{div-one, div-div-eq-div-mul, pow-succ', two-pow-succ}
 use native.Mathlib.Omega.{arith}
-use lib.Bits.{bitAnd, and-step}
+use lib.Bits.{bitAnd, and-step, and-le-l}
+use lib.Count.{under, trailingZeros}
 use lib.Dec.{eqb}
 use borrow.Author.Tests.{eqb-true, eqb-false, eq-eqb, ne-eqb}
 use Rattle.cells.proofs.Cells.{split}
-use Rattle.word.specs.Bits.{bit, someBelow}
-
--- the lowest number taken first
-some-up : (f : ℕ → Bool) (n : ℕ) → someBelow f (suc n) ≡ (f 0 || someBelow (λ i. f (suc i)) n)
-some-up f zero = go (f 0)
-  where
-    go : (b : Bool) → (false || b) ≡ (b || false)
-    go true = refl
-    go false = refl
-some-up f (suc n) = ap (λ (b : Bool). b || f (suc n)) (some-up f n) ∙ assoc (f 0) (someBelow (λ i. f (suc i)) n) (f (suc n))
-  where
-    assoc : (a b c : Bool) → ((a || b) || c) ≡ (a || (b || c))
-    assoc true b c = refl
-    assoc false b c = refl
-
--- the test goes by the numbers below n alone
-pub some-same : (f g : ℕ → Bool) (n : ℕ) → ((i : ℕ) → i < n → f i ≡ g i) → someBelow f n ≡ someBelow g n
-some-same f g zero h = refl
-some-same f g (suc n) h = λ i. some-same f g n (λ k l. h k (le-step l)) i || h n (le-refl (suc n)) i
+use Rattle.word.specs.Bits.{bit, someBelow, lowestBelow}
+use Rattle.word.proofs.Lowest.{some-up, some-same, lowest-same}
 
 bit-up : (x i : ℕ) → bit x (suc i) ≡ bit (x / 2) i
 bit-up x i = ap (λ (y : ℕ). eqb (y % 2) 1) (ap (λ (d : ℕ). x / d) (pow-succ' 2 i) ∙ sym (div-div-eq-div-mul x 2 (2 ^ i)))
@@ -74,3 +58,30 @@ mask-bits (suc n) x m h =
   where
     whole : x ≡ x / 2 * 2 + x % 2
     whole = omega arith
+
+-- the lowest bit that a mask takes away is the lowest that is 1 and that the mask lacks
+pub mask-lowest : (n x m : ℕ) → trailingZeros n (x - bitAnd x m) ≡ lowestBelow (λ i. bit x i && not (bit m i)) n
+unfolding trailingZeros
+mask-lowest zero x m = refl
+mask-lowest (suc n) x m =
+    let f : ℕ → Bool = λ i. bit x i && not (bit m i) in
+    let ups : lowestBelow (λ i. bit (x / 2) i && not (bit (m / 2) i)) n ≡ lowestBelow (λ i. f (suc i)) n =
+    lowest-same _ _ n (λ i l. λ j. sym (bit-up x i) j && not (sym (bit-up m i) j)) in
+    (λ j. under (odd j) (trailingZeros n (half j)))
+    ∙ first (x % 2) (m % 2) (trailingZeros n (x / 2 - bitAnd (x / 2) (m / 2))) (omega arith) (omega arith)
+    ∙ (λ j. cond (eqb (sym (div-one x) j % 2) 1 && not (eqb (sym (div-one m) j % 2) 1)) 0 (suc ((mask-lowest n (x / 2) (m / 2) ∙ ups) j)))
+  where
+    odd : (x - bitAnd x m) % 2 ≡ x % 2 - min (x % 2) (m % 2)
+    odd = omega (arith, and-step x m, and-le-l (x / 2) (m / 2))
+
+    half : (x - bitAnd x m) / 2 ≡ x / 2 - bitAnd (x / 2) (m / 2)
+    half = omega (arith, and-step x m, and-le-l (x / 2) (m / 2))
+
+    first : (a b t : ℕ) → a < 2 → b < 2 → under (a - min a b) t ≡ cond (eqb a 1 && not (eqb b 1)) 0 (suc t)
+    first zero zero t la lb = refl
+    first zero (suc zero) t la lb = refl
+    first zero (suc (suc b)) t la lb = absurd (omega arith)
+    first (suc zero) zero t la lb = refl
+    first (suc zero) (suc zero) t la lb = refl
+    first (suc zero) (suc (suc b)) t la lb = absurd (omega arith)
+    first (suc (suc a)) b t la lb = absurd (omega arith)

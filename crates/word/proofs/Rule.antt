@@ -14,11 +14,12 @@ use Rattle.cells.proofs.Tests.{below-of}
 use Rattle.cells.proofs.Cells.{split, both}
 use Rattle.word.specs.Bits.{bit, inRanges, someBelow}
 use Rattle.word.specs.Table.{Row, table, lookup}
-use Rattle.word.specs.Entries.{maskOf, masked}
+use Rattle.word.specs.Entries.{maskOf, masked, maskedBit}
 use Rattle.word.specs.Operands.{opcodeOf}
-use Rattle.word.specs.Word.{rowOf, strayAt, strayIn}
+use Rattle.word.specs.Word.{rowOf, strayAt, strayIn, offendingIn}
 use Rattle.word.proofs.Every.{Every}
-use Rattle.word.proofs.Masks.{mask-bits, some-same}
+use Rattle.word.proofs.Lowest.{some-same, lowest-same, lowest-more}
+use Rattle.word.proofs.Masks.{mask-bits, mask-lowest}
 
 -- ---- an opcode that no row has
 
@@ -87,22 +88,39 @@ found-opcode (x ∷ rs) op r e =
     here : some x ≡ some r → x .opcode ≡ op → r .opcode ≡ op
     here e q = let same : x ≡ r = cc in sym (ap (λ (r : Row). r .opcode) same) ∙ q
 
--- so the mask says what the ranges say: an unnamed bit is 1 just where masking changes the word
-pub mask-ranges : (w : ℕ) (r : Row) → rowOf w ≡ some r → strayIn (some r) w ≡ not (masked w (maskOf (r .named)))
-mask-ranges w r e =
-    let m = maskOf (r .named) in
-    let is = below-of (λ i. same (bit m i) (inRanges (r .named) i)) 24 (found-of (λ r. right r ≡ true) table (opcodeOf w) r (tested right table rule) e) in
-    sym
-    (ap not (mask-bits 24 (w % 2 ^ 24) m (omega arith)) ∙ not-not (someBelow (λ i. bit (w % 2 ^ 24) i && not (bit m i)) 24)
-    ∙ some-same (λ i. bit (w % 2 ^ 24) i && not (bit m i)) (strayAt (r .named) w) 24
-    (λ i h. λ j. low-bit w i h j && not (same-is (bit m i) (inRanges (r .named) i) (is i h) j)))
-  where
-    not-not : (b : Bool) → not (not b) ≡ b
-    not-not true = refl
-    not-not false = refl
+-- ---- so the mask says what the ranges say
 
-    low-bit : (w i : ℕ) → i < 24 → bit (w % 2 ^ 24) i ≡ bit w i
-    low-bit w i h =
-        let whole : 24 ≡ 23 - i + 1 + i = omega arith in
-        ap (λ (x : ℕ). eqb (x % 2) 1) (ap (λ (n : ℕ). w % 2 ^ n / 2 ^ i) whole ∙ field w (23 - i + 1) i)
-        ∙ ap (λ (x : ℕ). eqb x 1) (mod-mod-pow (w / 2 ^ i) (23 - i) 1)
+abbrev strays : ℕ → Row → ℕ → Bool
+strays w r i = bit (w % 2 ^ 24) i && not (bit (maskOf (r .named)) i)
+
+module _ (w : ℕ) (r : Row) (e : rowOf w ≡ some r) where
+  stray-bits : (i : ℕ) → i < 24 → strays w r i ≡ strayAt (r .named) w i
+  stray-bits i h =
+      let m = maskOf (r .named) in
+      let is = below-of (λ i. same (bit m i) (inRanges (r .named) i)) 24 (found-of (λ r. right r ≡ true) table (opcodeOf w) r (tested right table rule) e) in
+      λ j. low-bit w i h j && not (same-is (bit m i) (inRanges (r .named) i) (is i h) j)
+    where
+      low-bit : (w i : ℕ) → i < 24 → bit (w % 2 ^ 24) i ≡ bit w i
+      low-bit w i h =
+          let whole : 24 ≡ 23 - i + 1 + i = omega arith in
+          ap (λ (x : ℕ). eqb (x % 2) 1) (ap (λ (n : ℕ). w % 2 ^ n / 2 ^ i) whole ∙ field w (23 - i + 1) i)
+          ∙ ap (λ (x : ℕ). eqb x 1) (mod-mod-pow (w / 2 ^ i) (23 - i) 1)
+
+  -- an unnamed bit is 1 just where masking changes the word
+  pub mask-ranges : strayIn (some r) w ≡ not (masked w (maskOf (r .named)))
+  mask-ranges =
+      sym
+      (ap not (mask-bits 24 (w % 2 ^ 24) (maskOf (r .named)) (omega arith)) ∙ not-not (someBelow (strays w r) 24)
+      ∙ some-same (strays w r) (strayAt (r .named) w) 24 stray-bits)
+    where
+      not-not : (b : Bool) → not (not b) ≡ b
+      not-not true = refl
+      not-not false = refl
+
+  -- and the lowest is then the lowest that masking takes away
+  pub mask-offending : strayIn (some r) w ≡ true → offendingIn (some r) w ≡ maskedBit w (maskOf (r .named))
+  mask-offending t =
+      sym
+      (mask-lowest 32 (w % 2 ^ 24) (maskOf (r .named))
+      ∙ lowest-more (strays w r) 24 32 (omega arith) (some-same (strays w r) (strayAt (r .named) w) 24 stray-bits ∙ t)
+      ∙ lowest-same (strays w r) (strayAt (r .named) w) 24 stray-bits)

@@ -1,5 +1,5 @@
 -- Document 01, "Instruction fields" and "Numbers given back": what the word reader answers, in the paper's numbers: the opcode and the
--- fields that the instruction goes by, in the order of their row, or the number 2 or 3. Definitions only.
+-- fields that the instruction goes by, in the order of their row, or the number 2, or 3 and a bit. Definitions only.
 use mathlib.Core.Bool.{Bool, cond}
 use mathlib.Core.List.{List, [], _∷_, map}
 use mathlib.Core.Option.{Option, none, some}
@@ -7,8 +7,8 @@ use Prim.Native.Nat.{ℕ, _+_, _*_}
 use lib.Dec.{eqb}
 use Rattle.word.specs.Bits.{bits, Range, _to_}
 use Rattle.word.specs.Table.{Row}
-use Rattle.word.specs.Word.{rowOf, strayIn}
-use Rattle.word.specs.Refusal.{numberOf}
+use Rattle.word.specs.Word.{rowOf, strayIn, offendingIn}
+use Rattle.word.specs.Refusal.{numberOf, bitOf}
 use Rattle.word.specs.Operands.{multiplyOf, legacyOf, setCountersOf, addCountersOf, zeroSrcOf, shiftAOf, shiftBOf, scalarOf}
 use Rattle.word.specs.declared.Clear.{Clear}
 use Rattle.word.specs.declared.Which.{Which}
@@ -32,7 +32,7 @@ use Rattle.word.specs.declared.Read.the-variants as read
 
 pub data WordAnswer : Type 0 where
   fields : ℕ → List ℕ → WordAnswer
-  refusedBy : ℕ → WordAnswer
+  refusedBy : ℕ → Option ℕ → WordAnswer
 
 -- ---- of the reader's answer
 
@@ -93,7 +93,7 @@ operandsAnswer (operands.Scalar x) = fields (operationOpcode (scalarOf x .op)) (
 
 abbrev pub readAnswer : Read → WordAnswer
 readAnswer (read.Operands f) = operandsAnswer f
-readAnswer (read.Refused r) = refusedBy (numberOf r)
+readAnswer (read.Refused r) = refusedBy (numberOf r) (bitOf r)
 
 -- ---- of the word
 
@@ -126,9 +126,9 @@ abbrev pub rowFields : Row → ℕ → List ℕ
 rowFields r w = map (λ (x : Range). bits w (x .hi) (x .lo)) (usedOf (r .class) (r .named))
 
 abbrev pub answerIn : Option Row → ℕ → WordAnswer
-answerIn none w = refusedBy 2
-answerIn (some r) w = cond (strayIn (some r) w) (refusedBy 3) (fields (usedOpcode (r .class) (r .opcode)) (rowFields r w))
+answerIn none w = refusedBy 2 none
+answerIn (some r) w = cond (strayIn (some r) w) (refusedBy 3 (some (offendingIn (some r) w))) (fields (usedOpcode (r .class) (r .opcode)) (rowFields r w))
 
--- 2 for an unknown opcode, else 3 for an unnamed bit that is 1, else the fields
+-- 2 for an unknown opcode, else 3 for an unnamed bit that is 1, and the lowest such bit, else the fields
 unfoldable pub wordAnswer : ℕ → WordAnswer
 wordAnswer w = answerIn (rowOf w) w

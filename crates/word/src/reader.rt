@@ -5,6 +5,7 @@ use crate::decode::operands_of;
 use crate::table::Found;
 use crate::table::allows;
 use crate::table::find;
+use crate::table::lowest_stray;
 ghost use mathlib.Core.Path.{_≡_};
 ghost use Rattle.word.specs.Word.{readWord};
 ghost use Rattle.word.specs.Fields.{readAnswer, wordAnswer};
@@ -20,5 +21,5 @@ pub fn read_word(w: u32) -> Read
         let class = e.2;
         return Read::Operands(operands_of(class, w));
     }
-    Read::Refused(Refusal::UnnamedBit)
+    Read::Refused(Refusal::UnnamedBit(lowest_stray(e.1, w)))
 }

@@ -2,7 +2,7 @@
 use crate::Class;
 ghost use mathlib.Core.Path.{_≡_};
 ghost use Rattle.word.specs.Table.{table, lookup};
-ghost use Rattle.word.specs.Entries.{foundOf, masked};
+ghost use Rattle.word.specs.Entries.{foundOf, masked, maskedBit};
 
 // A row: an opcode, the bits that may be 1, and the class.
 pub(crate) struct Entry(pub u32, pub u32, pub Class);
@@ -74,4 +74,12 @@ pub(crate) fn allows(allowed: u32, w: u32) -> bool
 {
     let low = w % 0x1000000;
     low & allowed == low
+}
+
+// The lowest of the low 24 bits that is 1 and not allowed to be; 32 where each is allowed.
+pub(crate) fn lowest_stray(allowed: u32, w: u32) -> u8
+    ensures { λ r. ⌜ r ≡ maskedBit w allowed ⌝ }
+{
+    let low = w % 0x1000000;
+    u32::trailing_zeros(low - (low & allowed)) as u8
 }

@@ -1,5 +1,6 @@
-//! What many generated jobs cover.
+//! What many generated jobs cover, and the words of as many generated single steps.
 
+mod bits;
 mod data;
 mod issues;
 mod left;
@@ -45,11 +46,13 @@ fn dst_rows(control: &Control, field: &Field) -> Option<(&'static str, Range<usi
     Some((field.tag().text(), field.dst_rows()?))
 }
 
-/// The table over so many generated jobs, and the names of its rows that stayed zero.
+/// The table over so many generated jobs, with a single step each, and the names of its rows that
+/// stayed zero.
 pub fn coverage(seed: u64, count: u64) -> (String, Vec<String>) {
-    let mut rng = Rng(seed);
+    let (mut rng, mut of_steps) = (Rng(seed), Rng(seed));
     let mut table = rows::table();
     for _ in 0..count {
+        bits::count_step(&mut table, &mut of_steps);
         let bytes = job(&mut rng);
         match precheck(&bytes) {
             Answer::Finished(_) => passing::count(&mut table, &bytes),

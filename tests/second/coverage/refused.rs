@@ -2,7 +2,7 @@
 
 use super::left::Trail;
 use super::table::{Group, Table, Test};
-use super::{dst_rows, mode};
+use super::{bits, dst_rows, mode};
 use crate::engine::{
     all_set, follow, named, ranged, raw_at, read, settings, shape, width_of, Class, Control, Field,
     Instruction, Marks, Placed, Refusal, Tag, Width, A, B, BF16, BLOCK, DST_ROWS, FIELD_ROWS,
@@ -41,10 +41,14 @@ pub fn count(table: &mut Table, bytes: &[u8], refusal: Refusal, place: usize) {
     }
     let (mut control, mut marks) = (Control::start(), Marks::start());
     let mut trail = Trail::default();
-    for (at, field) in &fields {
+    for placed @ (at, field) in &fields {
         if *at == place {
-            if refusal == Refusal::Unset {
-                trail.count(table, &control, &marks, field, false);
+            match refusal {
+                Refusal::UnknownOpcode | Refusal::UnnamedBit { .. } => {
+                    bits::count(table, &control, &marks, &fields, placed);
+                }
+                Refusal::Unset => trail.count(table, &control, &marks, field, false),
+                _ => {}
             }
             return count_field(table, &control, &marks, field, refusal);
         }
@@ -115,7 +119,6 @@ fn count_field(
     };
     let known = || it.expect("a known opcode");
     match refusal {
-        Refusal::UnnamedBit => count_unnamed(table, known()),
         Refusal::UndefinedMode => count_mode(table, known()),
         Refusal::Unmodelled => {
             table.hit(Group::Unmodelled, known().entry.name);
@@ -129,25 +132,13 @@ fn count_field(
         },
         Refusal::DstRow => table.hit(Group::DstRow, known().entry.name),
         Refusal::Unset => count_unset(table, control, marks, field),
-        Refusal::Shape | Refusal::UnknownOpcode => {}
+        Refusal::Shape | Refusal::UnknownOpcode | Refusal::UnnamedBit { .. } => {}
         Refusal::LentLength | Refusal::AfterPrecheck => {}
     }
 }
 
 pub fn owner_row(tag: Tag, file: usize) -> String {
     format!("{} {}", tag.text(), FILES[file])
-}
-
-pub fn bit_row(bit: u32) -> String {
-    format!("bit {bit} alone")
-}
-
-fn count_unnamed(table: &mut Table, it: Instruction) {
-    let unnamed = it.word & !it.entry.named;
-    table.hit(Group::UnnamedBit, it.entry.name);
-    if unnamed.count_ones() == 1 {
-        table.hit(Group::UnnamedBit, bit_row(unnamed.trailing_zeros()));
-    }
 }
 
 /// Rows for a mode of a name: where there are many, one for each of its bits.

@@ -2,11 +2,11 @@
 
 use super::multiplies::{AFTER, BEFORE, DATUM, ROUNDING};
 use super::table::{Group, Table};
-use super::{data, issues, left, parts, passing, refused, Mode, MULTIPLY};
+use super::{bits, data, issues, left, parts, passing, refused, Mode, MULTIPLY};
 use crate::engine::{
     Class, Control, Entry, Field, Instruction, Name, Refusal, Scalar, Slot, Tag, Thread, What,
-    Width, A, BANKS, BF16, BITWOPDMAREG, BLOCK, FILES, INCRWC, PHASES, SHIFTXB, SLOTS, SRC,
-    SRC_ROWS, TABLE, TF32, THREADS, ZEROSRC,
+    Width, A, BANKS, BF16, BITWOPDMAREG, BLOCK, CLREXPHIST, FILES, INCRWC, PHASES, SHIFTXB, SLOTS,
+    SRC, SRC_ROWS, TABLE, TF32, THREADS, ZEROSRC,
 };
 use crate::explain::Reason;
 
@@ -32,6 +32,7 @@ pub fn table() -> Table {
     let mut table = Table::empty();
     enter_jobs(&mut table);
     enter_modes(&mut table);
+    enter_bits(&mut table);
     enter_refusals(&mut table);
     enter_halves(&mut table);
     enter_multiplies(&mut table);
@@ -48,8 +49,7 @@ fn enter_jobs(table: &mut Table) {
     table.enter(Group::Jobs, ["passing", "refused"]);
     table.enter(Group::PassingSettings, modes());
     table.enter(Group::RefusedSettings, modes());
-    let numbers = Refusal::OF_PRECHECK.iter().map(|refusal| refusal.number());
-    table.enter(Group::RefusalNumber, numbers);
+    table.enter(Group::RefusalNumber, Refusal::OF_PRECHECK);
     table.enter(Group::Size, [passing::size_row(), refused::size_row()]);
     let reasons = Reason::ALL.iter().map(|reason| reason.text());
     table.enter(Group::WrongShape, reasons);
@@ -76,9 +76,23 @@ fn enter_modes(table: &mut Table) {
     }
 }
 
+/// Words with an unknown opcode or an unnamed bit.
+fn enter_bits(table: &mut Table) {
+    for group in bits::UNKNOWN {
+        table.enter_tests(group, bits::unknown(0));
+    }
+    for group in bits::LOWEST {
+        table.enter(group, bits::lowest_rows());
+    }
+    let group = Group::BesideUnnamed;
+    table.enter_tests(group, bits::beside(plain(&CLREXPHIST), 0));
+    table.enter(group, bits::Place::ALL.iter().map(|place| place.text()));
+    table.enter(group, (0..THREADS).map(bits::thread_row));
+    let numbers = [None, Some(4), Some(5), Some(6), Some(7), Some(8)];
+    table.enter(group, numbers.map(bits::otherwise_row));
+}
+
 fn enter_refusals(table: &mut Table) {
-    table.enter(Group::UnnamedBit, names(|entry| entry.named != u32::MAX));
-    table.enter(Group::UnnamedBit, (0..24).map(refused::bit_row));
     table.enter(Group::Unmodelled, multiplies());
     table.enter_tests(Group::Unmodelled, refused::unmodelled(&Control::start()));
     table.enter(Group::OtherOwner, names(|entry| entry.class.needs_a_bank()));

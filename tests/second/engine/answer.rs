@@ -1,12 +1,17 @@
 //! What a job or a single step is answered.
 
+use std::ops::RangeInclusive;
+
 /// Document 01's table of numbers given back.
 #[derive(Debug, Clone, Copy, PartialEq, Eq)]
 pub enum Refusal {
     /// The job's shape is wrong, or a single step's record or thread is out of range.
     Shape,
     UnknownOpcode,
-    UnnamedBit,
+    /// With the lowest bit that is 1 though its row does not name it.
+    UnnamedBit {
+        bit: u8,
+    },
     UndefinedMode,
     Unmodelled,
     OtherOwner,
@@ -18,23 +23,14 @@ pub enum Refusal {
 }
 
 impl Refusal {
-    /// Those that the pre-check gives.
-    pub const OF_PRECHECK: &'static [Refusal] = &[
-        Refusal::Shape,
-        Refusal::UnknownOpcode,
-        Refusal::UnnamedBit,
-        Refusal::UndefinedMode,
-        Refusal::Unmodelled,
-        Refusal::OtherOwner,
-        Refusal::DstRow,
-        Refusal::Unset,
-    ];
+    /// The numbers that the pre-check gives.
+    pub const OF_PRECHECK: RangeInclusive<u8> = 1..=8;
 
     pub fn number(self) -> u8 {
         match self {
             Refusal::Shape => 1,
             Refusal::UnknownOpcode => 2,
-            Refusal::UnnamedBit => 3,
+            Refusal::UnnamedBit { .. } => 3,
             Refusal::UndefinedMode => 4,
             Refusal::Unmodelled => 5,
             Refusal::OtherOwner => 6,
@@ -42,6 +38,14 @@ impl Refusal {
             Refusal::Unset => 8,
             Refusal::LentLength => 9,
             Refusal::AfterPrecheck => 10,
+        }
+    }
+
+    /// The bit that is told beside the number: a refusal 3 has one.
+    pub fn bit(self) -> Option<u8> {
+        match self {
+            Refusal::UnnamedBit { bit } => Some(bit),
+            _ => None,
         }
     }
 
@@ -69,7 +73,11 @@ impl Answer {
         match self {
             Answer::Finished(count) => format!("{passed} {count}"),
             Answer::Refused { refusal, place } => {
-                format!("refused {} at {place}", refusal.number())
+                let line = format!("refused {} at {place}", refusal.number());
+                match refusal.bit() {
+                    Some(bit) => format!("{line} bit {bit}"),
+                    None => line,
+                }
             }
         }
     }

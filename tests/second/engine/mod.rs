@@ -1,6 +1,6 @@
-//! Document 01, with orders 1 and 3 of document 02, a second time: plain loops over plain numbers,
-//! written from the papers alone, so that another program can be held against it from outside.
-//! Nothing here uses the files beside this folder.
+//! Document 01, with orders 1, 3 and 4 of document 02, a second time: plain loops over plain
+//! numbers, written from the papers alone, so that another program can be held against it from
+//! outside. Nothing here uses the files beside this folder.
 
 // A program that takes this folder by its path may need only a part of it.
 #![allow(dead_code)]

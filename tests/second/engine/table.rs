@@ -203,6 +203,8 @@ const fn scalar(last: u32) -> [Bits; 5] {
 }
 
 const OPCODE: u32 = 24;
+/// All bits below it.
+pub const BELOW_OPCODE: u32 = (1 << OPCODE) - 1;
 
 const fn named(bits: &[Bits]) -> u32 {
     let (mut named, mut n) = (0xFF << OPCODE, 0);
@@ -279,6 +281,12 @@ impl Entry {
     /// The entry of a word's opcode.
     pub fn of(word: u32) -> Option<&'static Entry> {
         BY_OPCODE[(word >> OPCODE) as usize]
+    }
+
+    /// The bits below the opcode that its row does not name, from the lowest on.
+    pub fn unnamed(&self) -> impl Iterator<Item = u8> {
+        let named = self.named;
+        (0..OPCODE as u8).filter(move |bit| (named >> bit) & 1 == 0)
     }
 
     pub fn find(&self, name: Name) -> Option<&'static Bits> {

@@ -34,6 +34,16 @@ impl Instruction {
         self.entry.mode.map_or(0, |mode| self.get(mode))
     }
 
+    /// The lowest bit that is 1 though its row does not name it.
+    #[inline]
+    pub fn offending(&self) -> Option<u8> {
+        // Most words have none, and are not walked bit by bit.
+        if self.word & !self.entry.named == 0 {
+            return None;
+        }
+        self.entry.unnamed().find(|bit| (self.word >> bit) & 1 == 1)
+    }
+
     /// The two-bit number of its slot.
     pub fn slot(&self) -> Option<u32> {
         self.entry.slot.map(|slot| self.get(slot))
@@ -73,8 +83,8 @@ impl Instruction {
 #[inline]
 pub fn decode(word: u32) -> Result<Instruction, Refusal> {
     let it = Instruction::of(word).ok_or(Refusal::UnknownOpcode)?;
-    if word & !it.entry.named != 0 {
-        return Err(Refusal::UnnamedBit);
+    if let Some(bit) = it.offending() {
+        return Err(Refusal::UnnamedBit { bit });
     }
     match it.entry.mode {
         Some(mode) if !mode.defines(mode.get(word)) => Err(Refusal::UndefinedMode),

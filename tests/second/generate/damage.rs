@@ -7,11 +7,12 @@ use super::raw::{first_output, is, raw_width};
 use super::rng::Rng;
 use super::words::{
     any_bits, bad_word, compose, pick_entry, pick_multiply, pick_needy, pick_scalar, pick_where,
+    with_unnamed,
 };
 use crate::engine::{
-    number, raw, rows_of, write, Class, Entry, Field, Name, Tag, Width, A, B, BF16, D, DST_ROWS,
-    FIELD_ROWS, FLAGS, FORMATS, FP16A, FP32, HEADER, INT8, ISSUE_HEAD, LOAD_HEAD, REGISTERS,
-    ROW_BYTES, SETTINGS_BYTES, TF32, THREADS,
+    number, raw, rows_of, write, Class, Entry, Field, Instruction, Name, Tag, Width, A, B, BF16, D,
+    DST_ROWS, FIELD_ROWS, FLAGS, FORMATS, FP16A, FP32, HEADER, INT8, ISSUE_HEAD, LOAD_HEAD,
+    REGISTERS, ROW_BYTES, SETTINGS_BYTES, TF32, THREADS,
 };
 
 /// The bytes of a settings field, and where it has its format and its flags.
@@ -22,6 +23,13 @@ const FLAGS_AT: usize = HEADER + 1;
 const WORD_AT: usize = HEADER + ISSUE_HEAD;
 /// What of a row number's second byte moves it by 512.
 const HALF_BIT: u8 = (DST_ROWS >> 8) as u8;
+
+/// The instruction of an issue field.
+fn instruction(field: &[u8]) -> Option<Instruction> {
+    let word = field.get(WORD_AT..WORD_AT + 4).map(number);
+    let word = word.filter(|_| is(field, Tag::Issue));
+    word.and_then(Instruction::of)
+}
 
 /// A job's fields, and what each kind of damage may use of it.
 struct Damage<'a> {
@@ -55,8 +63,9 @@ pub fn damage(rng: &mut Rng, fields: &mut Vec<Vec<u8>>) {
         file,
         any,
     };
-    match it.rng.below(34) {
-        0..=3 | 24 | 25 | 30 | 31 => it.breaks_a_word_rule(),
+    match it.rng.below(44) {
+        0..=3 | 24 | 25 | 30 | 31 | 34..=40 => it.breaks_a_word_rule(),
+        41..=43 => it.turns_unnamed_bits_on(),
         4 | 5 => it.multiplies_unmodelled(),
         6 => it.leaves_out(&[Tag::HandOver]),
         7 => it.hands_over_twice(),
@@ -97,10 +106,15 @@ impl Damage<'_> {
         self.issue(at, word);
     }
 
-    /// One of the fields of which something holds.
-    fn pick_where(&mut self, holds: impl Fn(&[u8]) -> bool) -> Option<usize> {
+    /// The fields of which something holds.
+    fn all_where(&self, holds: impl Fn(&[u8]) -> bool) -> Vec<usize> {
         let places = 0..self.fields.len();
-        let found: Vec<usize> = places.filter(|&n| holds(&self.fields[n])).collect();
+        places.filter(|&n| holds(&self.fields[n])).collect()
+    }
+
+    /// One of them.
+    fn pick_where(&mut self, holds: impl Fn(&[u8]) -> bool) -> Option<usize> {
+        let found = self.all_where(holds);
         (!found.is_empty()).then(|| self.rng.pick(&found))
     }
 
@@ -110,16 +124,36 @@ impl Damage<'_> {
 
     /// One of the issue fields with an instruction of a class of which something holds.
     fn pick_issue(&mut self, holds: impl Fn(Class) -> bool) -> Option<usize> {
-        self.pick_where(|field| {
-            let word = field.get(WORD_AT..WORD_AT + 4).map(number);
-            let entry = word.and_then(Entry::of);
-            is(field, Tag::Issue) && entry.is_some_and(|entry| holds(entry.class))
-        })
+        self.pick_where(|field| instruction(field).is_some_and(|it| holds(it.entry.class)))
     }
 
+    /// Before all other issue fields, after all of them or between.
     fn breaks_a_word_rule(&mut self) {
         let word = bad_word(self.rng);
-        self.issue(self.middle, word);
+        let places = [1, self.outputs, self.middle, self.middle];
+        let place = self.rng.pick(&places).min(self.fields.len());
+        self.issue(place, word);
+    }
+
+    /// In the word of the first issue field, of the last one or of any, but for ZEROSRC, which has no
+    /// unnamed bit. A multiply's Dst rows sometimes move by 512 as well.
+    fn turns_unnamed_bits_on(&mut self) {
+        let has = |it: Instruction| it.entry.unnamed().next().is_some();
+        let found = self.all_where(|field| instruction(field).is_some_and(has));
+        let (Some(&first), Some(&last)) = (found.first(), found.last()) else {
+            return;
+        };
+        let any = self.rng.pick(&found);
+        let field = &mut self.fields[self.rng.pick(&[first, last, any])];
+        if let Some(Instruction { entry, word }) = instruction(field) {
+            let bits: Vec<u8> = entry.unnamed().collect();
+            let lowest = self.rng.pick(&bits);
+            let word = with_unnamed(self.rng, entry, word, lowest);
+            field[WORD_AT..WORD_AT + 4].copy_from_slice(&word.to_le_bytes());
+            if entry.class.is_multiply() && self.rng.one_in(3) {
+                field[WORD_AT + 1] ^= HALF_BIT;
+            }
+        }
     }
 
     fn multiplies_unmodelled(&mut self) {

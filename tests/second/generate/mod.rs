@@ -34,16 +34,16 @@ pub fn job(rng: &mut Rng) -> Vec<u8> {
         let size = rng.pick(&[JOB_BYTES, JOB_BYTES, JOB_BYTES + 1, JOB_BYTES + 500]);
         grow(rng, &mut fields, size);
     }
-    let kind = rng.below(20);
-    if (10..=17).contains(&kind) {
+    let kind = rng.below(21);
+    if (11..=18).contains(&kind) {
         damage(rng, &mut fields);
     }
     // The first of two broken rules counts.
-    if kind == 17 && !fields.is_empty() {
+    if kind == 18 && !fields.is_empty() {
         damage(rng, &mut fields);
     }
     let mut job = fields.concat();
-    if kind > 17 {
+    if kind > 18 {
         damage_bytes(rng, &mut job);
     }
     job

@@ -4,7 +4,9 @@ use super::builder::{rows, Builder, Done};
 use super::halfway::Halfway;
 use super::records::settings;
 use super::rng::Rng;
-use super::words::{compose, pick_entry, pick_multiply, pick_needy, pick_scalar, pick_where};
+use super::words::{
+    bad_word, compose, pick_entry, pick_multiply, pick_needy, pick_scalar, pick_where,
+};
 use crate::engine::{
     all_set, row_bytes, settings_bytes, Class, Entry, Field, Instruction, Name, Width, A, B, BLOCK,
     CONSTANT, D, DST_COUNTS, DST_ROWS, FIELD_ROWS, INCRWC, JOB_BYTES, REGISTERS, REGISTER_A,
@@ -54,7 +56,7 @@ impl Builder<'_> {
     fn unprepared(&mut self) -> Done {
         let thread = self.thread();
         let file = self.rng.index(2);
-        let word = match self.rng.below(10) {
+        let word = match self.rng.below(12) {
             0 => return self.dare(&Field::HandOver { file }),
             1 => {
                 let (first, rows) = (16, &rows(self.rng, self.width(), file, 1));
@@ -62,6 +64,7 @@ impl Builder<'_> {
             }
             2 => SETRWC.word(&[(Name::Clear, self.rng.below(4))]),
             3..=6 => self.unprepared_word(thread),
+            7 | 8 => bad_word(self.rng),
             _ => {
                 let entry = pick_entry(self.rng);
                 compose(self.rng, entry)

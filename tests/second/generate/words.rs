@@ -1,7 +1,7 @@
 //! Words, right and wrong ones.
 
 use super::rng::Rng;
-use crate::engine::{Entry, Name, SHIFTXA, TABLE};
+use crate::engine::{Entry, Name, BELOW_OPCODE, SHIFTXA, TABLE};
 
 pub fn pick_entry(rng: &mut Rng) -> &'static Entry {
     rng.pick(TABLE)
@@ -42,10 +42,11 @@ pub fn compose(rng: &mut Rng, entry: &Entry) -> u32 {
 
 /// A word of an entry with any bits.
 pub fn any_bits(rng: &mut Rng, entry: &Entry) -> u32 {
-    entry.word(&[]) | rng.below(1 << 24)
+    entry.word(&[]) | (rng.word() & BELOW_OPCODE)
 }
 
-/// A word for single steps: mostly of the table, sometimes with a bit flipped, sometimes anything.
+/// A word for single steps: mostly of the table, sometimes with a bit flipped or a rule broken,
+/// sometimes anything.
 pub fn word(rng: &mut Rng) -> u32 {
     let entry = match rng.below(12) {
         0..=2 => pick_multiply(rng),
@@ -53,39 +54,50 @@ pub fn word(rng: &mut Rng) -> u32 {
         3 => &SHIFTXA,
         _ => pick_entry(rng),
     };
-    match rng.below(12) {
+    match rng.below(15) {
         0 => rng.word(),
         1 => any_bits(rng, entry),
         2 => compose(rng, entry) ^ (1 << rng.below(32)),
+        3..=5 => bad_word(rng),
         _ => compose(rng, entry),
+    }
+}
+
+/// None of these bits, all of them or any.
+fn some_of(rng: &mut Rng, bits: u32) -> u32 {
+    match rng.below(4) {
+        0 => 0,
+        1 => bits,
+        _ => bits & rng.word(),
     }
 }
 
 fn unknown_opcode(rng: &mut Rng) -> u32 {
     loop {
-        let word = rng.word();
+        let word = rng.below(256) << 24;
         if Entry::of(word).is_none() {
-            return word;
+            return word | some_of(rng, BELOW_OPCODE);
         }
     }
 }
 
-fn unnamed_bits(entry: &Entry) -> Vec<u32> {
-    let unnamed = |bit: &u32| (entry.named >> bit) & 1 == 0;
-    (0..24).filter(unnamed).collect()
+/// The word of an entry with an unnamed bit, and none, all or some of those above it.
+pub fn with_unnamed(rng: &mut Rng, entry: &Entry, word: u32, lowest: u8) -> u32 {
+    let above = !entry.named & (u32::MAX << (lowest + 1));
+    word | 1 << lowest | some_of(rng, above)
 }
 
-/// A word with one unnamed bit, and its entry.
-fn unnamed_bit(rng: &mut Rng) -> (&'static Entry, u32) {
-    // Half of them bit first, half entry first: few entries leave the middle bits unnamed.
-    let bit = rng.below(24);
-    let (entry, bit) = if rng.one_in(2) {
-        (pick_where(rng, |e| unnamed_bits(e).contains(&bit)), bit)
-    } else {
-        let entry = pick_where(rng, |e| !unnamed_bits(e).is_empty());
-        (entry, rng.pick(&unnamed_bits(entry)))
-    };
-    (entry, compose(rng, entry) | (1 << bit))
+/// A word with unnamed bits, and its entry. Each unnamed bit of each entry is the lowest one
+/// equally often.
+fn unnamed_bits(rng: &mut Rng) -> (&'static Entry, u32) {
+    let pairs = TABLE.iter().flat_map(|&entry| {
+        let bits = entry.unnamed();
+        bits.map(move |bit| (entry, bit))
+    });
+    let pairs: Vec<(&'static Entry, u8)> = pairs.collect();
+    let (entry, lowest) = rng.pick(&pairs);
+    let word = compose(rng, entry);
+    (entry, with_unnamed(rng, entry, word, lowest))
 }
 
 /// The word with an undefined mode, where its entry has modes.
@@ -103,11 +115,11 @@ fn undefined_mode(rng: &mut Rng, entry: &Entry, word: u32) -> u32 {
 
 /// A word that breaks one of the rules 2 to 4, or two of them at once.
 pub fn bad_word(rng: &mut Rng) -> u32 {
-    match rng.below(12) {
-        0 => unknown_opcode(rng),
-        1..=4 => unnamed_bit(rng).1,
-        5 => {
-            let (entry, word) = unnamed_bit(rng);
+    match rng.below(20) {
+        0 | 1 => unknown_opcode(rng),
+        2..=9 => unnamed_bits(rng).1,
+        10..=13 => {
+            let (entry, word) = unnamed_bits(rng);
             undefined_mode(rng, entry, word)
         }
         _ => {

@@ -191,7 +191,7 @@ fn refused_leaves_none() -> Verdict {
             refuses(&before, 0, word, Refusal::OtherOwner)?;
         }
         for bit in [16, 18, 21] {
-            refuses(&before, 0, word | 1 << bit, Refusal::UnnamedBit)?;
+            refuses(&before, 0, word | 1 << bit, Refusal::UnnamedBit { bit })?;
         }
         refuses(&before, THREADS, word, Refusal::Shape)?;
     }

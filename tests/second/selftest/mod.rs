@@ -1,5 +1,6 @@
 //! Small named cases: the papers' worked numbers, and more. A failing one tells what it got.
 
+mod bits;
 mod halves;
 mod legacy;
 mod papers;
@@ -30,7 +31,14 @@ fn prints(fields: &[Written]) -> String {
 
 /// What came of all cases, and whether they passed.
 pub fn selftest() -> (String, bool) {
-    let cases = [papers::CASES, halves::CASES, legacy::CASES, parts::CASES].concat();
+    let cases = [
+        papers::CASES,
+        halves::CASES,
+        legacy::CASES,
+        parts::CASES,
+        bits::CASES,
+    ]
+    .concat();
     let (mut text, mut failed) = (String::new(), 0);
     for (name, test) in &cases {
         if let Err(what) = test() {

@@ -3,12 +3,12 @@
 use super::steps::{first_row, matrix_record, product, refusal, scalar, shifted_a, shifted_b};
 use super::{prints, same, Case, Verdict};
 use crate::engine::{
-    datum, output, parts, run, step, write, Control, Field, Name, Refusal, State, Tag, A, B, BF16,
-    FORMATS, FP32, JOB_BYTES, MVMUL, SETRWC, SHIFTXA, TF32, THREADS,
+    datum, output, parts, run, step, Control, Name, Refusal, State, Tag, A, B, BF16, FORMATS, FP32,
+    JOB_BYTES, MVMUL, SETRWC, SHIFTXA, TF32, THREADS,
 };
 use crate::worked::{
-    bytes, column_0, hand_over, issue, mvmul, mvmul_word, one, power, register_out, row_job,
-    settings, wide, Written,
+    bytes, column_0, hand_over, issue, load_12, mvmul, mvmul_word, one, power, register_out,
+    row_job, settings, wide, Written,
 };
 
 pub const CASES: &[Case] = &[
@@ -79,7 +79,7 @@ pub const CASES: &[Case] = &[
         same(prints(&job), "refused 1 at 0\n")
     }),
     ("an output before a load", || {
-        let job = [settings(BF16, FP32), register_out(1), load_12()];
+        let job = [settings(BF16, FP32), register_out(1), load_12(1)];
         same(prints(&job), "refused 1 at 168\n")
     }),
     ("a cut header", || {
@@ -158,7 +158,7 @@ pub const CASES: &[Case] = &[
     }),
     ("3 before 4", || {
         let word = MVMUL.word(&[(Name::Mode, 1)]) | 1 << 16;
-        refuses(matrix_record(), word, Refusal::UnnamedBit)
+        refuses(matrix_record(), word, Refusal::UnnamedBit { bit: 16 })
     }),
     ("4 before 5", || {
         let word = MVMUL.word(&[(Name::Mode, 1)]);
@@ -203,19 +203,11 @@ fn factors(m: u32) -> [[f32; 2]; 2] {
     [A, B].map(|file| parts(file, TF32, datum(0, 137, m)))
 }
 
-fn load_12() -> Written {
-    write(&Field::LoadRegister {
-        thread: 0,
-        register: 1,
-        value: 12,
-    })
-}
-
 /// The paper's worked job, with an output register.
 fn worked(register: usize) -> [Written; 4] {
     [
         settings(BF16, FP32),
-        load_12(),
+        load_12(1),
         issue(0x5B88_3141),
         register_out(register),
     ]

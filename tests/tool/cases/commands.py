@@ -44,6 +44,15 @@ def listing():
     yield has("explain", explained.stdout, b"# ^^^ refused 8 at 180", b"register 4 of thread 0 is unset")
     answer = call("list", "-", "--refused", "refused 8 at 180", given=read("refused_8", "job"))
     yield equal("list --refused", (answer.returncode, answer.stdout), (0, explained.stdout))
+    explained = call("explain", EXAMPLES / "refused_3.job", 3, 186, 16)
+    parts = b"# ^^^ refused 3 at 186 bit 16: ", b"; nearest is 15:14 slot, one bit below\n", b"do:  clear bit 16\n"
+    yield has("explain with a bit", explained.stdout, *parts)
+    answer = call("list", "-", "--refused", "refused 3 at 186 bit 16\n", given=read("refused_3", "job"))
+    yield equal("list --refused with a bit", result(answer), (0, explained.stdout, b""))
+    answer = call("explain", EXAMPLES / "refused_3.job", 3, 186)
+    yield equal("a refusal 3 without its bit", (answer.returncode, answer.stdout.count(b"but: ")), (0, 1))
+    answer = call("explain", EXAMPLES / "refused_3.job", 3, 186, 17)
+    yield equal("a refusal 3 with another bit", (answer.returncode, answer.stdout.count(b"but: ")), (0, 2))
     answer = call("explain", EXAMPLES / "refused_8_shift.job", 8, 1224)
     message = b"rows 16 to 31 of bank 0 of SrcA are unset; the last SrcA row is 16, which CONV3S1 left"
     yield has("explain a last SrcA row", answer.stdout, message)
@@ -59,6 +68,11 @@ def wrong_calls():
         ("explain", EXAMPLES / "register.job", 11, 180),
         ("explain", EXAMPLES / "register.job", "x", "y"),
         ("list", EXAMPLES / "register.job", "--refused", "finished 1"),
+        ("explain", EXAMPLES / "refused_8.job", 8, 180, 0),
+        ("list", EXAMPLES / "refused_8.job", "--refused", "refused 8 at 180 bit 0"),
+        ("explain", EXAMPLES / "refused_3.job", 3, 186, 24),
+        ("explain", EXAMPLES / "refused_3.job", 3, 186, -1),
+        ("explain", EXAMPLES / "refused_3.job", 3, 186, ""),
     ):
         answer = call(*arguments)
         told = answer.returncode == 1 and bool(answer.stderr.strip()) and b"Traceback" not in answer.stderr

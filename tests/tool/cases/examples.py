@@ -4,11 +4,11 @@ import struct
 from fractions import Fraction
 
 from jobtool.listing import listing
-from jobtool.refusals import answer_of
+from jobtool.refusals import answer_of as read_line
 
 from . import paper
 from .check import equal, has, starts
-from .made import EXAMPLES, NAMES, REFUSED, assembled, read
+from .made import EXAMPLES, NAMES, REFUSED, answer_of, assembled, read
 
 
 def texts():
@@ -21,8 +21,9 @@ def texts():
 def refused():
     for name, number in REFUSED.items():
         data, line = read(name, "job"), read(name, "out").decode()
-        text = listing(data, answer_of(line))
+        text = listing(data, read_line(line))
         yield starts(f"{name} prints that number", line, f"refused {number} at ")
+        yield equal(f"{name} prints what the tool reads", line, f"{answer_of(data)}\n")
         yield has(f"{name} is explained", text, f"# ^^^ {line.strip()}: ", "why: ")
         yield equal(f"{name} explained assembles", assembled(text), data)
 

@@ -13,7 +13,7 @@ from . import paper
 ROOT = Path(__file__).resolve().parents[3]
 TOOL = ROOT / "tools" / "job"
 EXAMPLES = ROOT / "examples"
-REFUSED = {**{f"refused_{n}": n for n in range(1, 9)}, "refused_1_bf16": 1, "refused_8_shift": 8}
+REFUSED = {**{f"refused_{n}": n for n in range(1, 9)}, "refused_1_bf16": 1, "refused_3_lowest": 3, "refused_8_shift": 8}
 NAMES = ("register", "mvmul", "tile_lofi", "tile_hifi4", "tile_bf16", "tile_fp32", "shift", "legacy_shift", "phases") + tuple(REFUSED)
 SEED = 1
 

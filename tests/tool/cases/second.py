@@ -5,13 +5,20 @@ import subprocess
 from jobtool.listing import listing
 
 from . import paper
-from .check import Case, equal, starts
+from .bits import offending_words, word_job
+from .check import Case, equal
 from .dst import edge_jobs
 from .made import EXAMPLES, NAMES, NARROW, answer_of, assembled, multiply_job, read
 
 
 def prints(second, *arguments, given=b""):
     return subprocess.run([second, *arguments], input=given, capture_output=True, timeout=120).stdout.decode()
+
+
+def answer_in(printed):
+    """The whole answer that printed lines begin with, without the count of a finished job."""
+    line = printed.partition("\n")[0]
+    return "finished" if line.startswith("finished ") else line
 
 
 def examples(second):
@@ -23,7 +30,7 @@ def examples(second):
 def edges(second):
     for text, answer in edge_jobs():
         printed = prints(second, "run", "-", given=assembled(text))
-        yield starts(f"{text[:60]!r}.. prints {answer}", printed, answer)
+        yield equal(f"{text[:60]!r}.. prints {answer}", answer_in(printed), answer)
         width = 4 if text.startswith(NARROW) else 8
         values = [value for line in printed.splitlines()[1:] for value in line.split()[2:]]
         other = [value for value in values if len(value) != width]
@@ -35,18 +42,24 @@ def multiplies(second):
         for flags in range(8):
             data = multiply_job(form, flags, 512 if (form, flags) == (paper.BF16, 0) else 0)
             printed = prints(second, "run", "-", given=data)
-            yield starts(f"a multiply in {form} with flags {flags} is run", printed, answer_of(data))
+            yield equal(f"a multiply in {form} with flags {flags} is run", answer_in(printed), answer_of(data))
+
+
+def bits(second):
+    for name, _, word in offending_words():
+        data = word_job(word)
+        yield equal(f"{name} is run", prints(second, "run", "-", given=data), f"{answer_of(data)}\n")
 
 
 def generated(second):
     lines = prints(second, "vectors", "7", "300").splitlines()
     kinds = set()
     for n, line in enumerate(lines):
-        digits, _, printed = line.partition(" ")
+        digits, _, printed = line.replace("|", "\n").partition(" ")
         data = bytes.fromhex(digits)
         kinds.add((data[3:5] == bytes((paper.BF16, 0)), printed[:9]))
         own = answer_of(data)
-        yield Case(f"generated job {n}", printed.startswith(own) and "|" in printed, own, printed[:30])
+        yield Case(f"generated job {n}", answer_in(printed) == own and printed.endswith("\n"), own, printed[:30])
         yield equal(f"generated job {n} listed and assembled", assembled(listing(data)), data)
     yield equal("300 generated jobs", len(lines), 300)
     wanted = {(bf16, start) for bf16 in (False, True) for start in ("finished ", "refused 1", "refused 8")}
@@ -54,4 +67,4 @@ def generated(second):
     yield equal("BF16 Dst is never refused 5 or 7", sorted(kinds & {(True, "refused 5"), (True, "refused 7")}), [])
 
 
-GROUPS = (examples, edges, multiplies, generated)
+GROUPS = (examples, edges, multiplies, bits, generated)

@@ -26,7 +26,7 @@ def tags():
 
 
 def row_text(opcode, named, modes):
-    return f"opcode {opcode:02x}, named bits {named & 0xFFFFFF:06x}, modes {modes}"
+    return f"opcode {opcode:02x}, named bits {named:06x}, modes {modes}"
 
 
 def instructions():
@@ -35,7 +35,8 @@ def instructions():
     for name, row in paper.INSTRUCTIONS.items():
         own = BY_NAME[name]
         modes = [list(bits.modes) for bits in own.bits if bits.modes]
-        yield equal(f"the row of {name}", row_text(own.opcode, ~own.unnamed(0xFFFFFF), modes), row_text(*row))
+        named = sum(1 << bit for bit in range(24) if own.naming(bit))
+        yield equal(f"the row of {name}", row_text(own.opcode, named, modes), row_text(*row))
         yield equal(f"{name} has an effect", own.kind in EFFECTS, True)
 
 

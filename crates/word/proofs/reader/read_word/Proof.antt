@@ -38,9 +38,12 @@ returns-2 : tie.Need-returns-2
 returns-2 c =
     told _ (simp (read-at _ _ (sym (c .before .before .before .before .before .before .find .ensures) ∙ (c .before .before .before .before .e .given .1)), ← (c .before .before .allows .ensures), (c .before .if1 .taken), (c .operands-of .ensures)))
 
+lowest-stray-requires : tie.Need-lowest-stray-requires
+lowest-stray-requires c κs = search needs
+
 returns-3 : tie.Need-returns-3
 returns-3 c =
-    told _ (simp (read-at _ _ (sym (c .before .before .before .before .before .find .ensures) ∙ (c .before .before .before .e .given .1)), ← (c .before .allows .ensures), (c .if1 .left)))
+    told _ (simp (read-at _ _ (sym (c .before .before .before .before .before .before .find .ensures) ∙ (c .before .before .before .before .e .given .1)), ← (c .before .before .allows .ensures), (c .before .if1 .left), (c .lowest-stray .ensures)))
 
 pub read-word-spec : {M : Type 1} → statement M
 read-word-spec =
@@ -53,4 +56,5 @@ read-word-spec =
     allows-requires
     operands-of-requires
     returns-2
+    lowest-stray-requires
     returns-3)
