@@ -61,7 +61,7 @@ lowest-at f (suc n) e = split (f 0) (λ t. rw t (omega arith, t)) (λ t. go t (l
         → (lowestBelow f (suc n) < suc n) × (f (lowestBelow f (suc n)) ≡ true)
     go t h = rw t (omega (arith, h .0), h .1)
 
--- it passes at no other number below which it fails
+-- it passes at some where it passes at i
 pub some-at : (f : ℕ → Bool) (n i : ℕ) → i < n → f i ≡ true → someBelow f n ≡ true
 some-at f zero i l e = absurd (omega arith)
 some-at f (suc n) zero l e = rw (some-up f n, e)
@@ -71,15 +71,13 @@ some-at f (suc n) (suc i) l e = rw (some-up f n, some-at (λ i. f (suc i)) n i (
     or-true true = refl
     or-true false = refl
 
+-- no other number at which it passes has only such below it at which it fails
 pub lowest-once : (f : ℕ → Bool) (n b : ℕ) → b < n → f b ≡ true → ((i : ℕ) → i < b → f i ≡ false) → lowestBelow f n ≡ b
 lowest-once f n b l e h =
     let k = lowestBelow f n in
     split (ltb k b) (λ t. absurd (false≢true (sym (h k (ltb-true k b t)) ∙ lowest-at f n (some-at f n b l e) .1)))
     (λ t. split (ltb b k) (λ u. absurd (false≢true (sym (lowest-first f n b (ltb-true b k u)) ∙ e))) (λ u. omega (arith, ltb-false k b t, ltb-false b k u)))
 
--- and more numbers above n change nothing
+-- so more numbers above n change nothing
 pub lowest-more : (f : ℕ → Bool) (n m : ℕ) → n ≤ m → someBelow f n ≡ true → lowestBelow f m ≡ lowestBelow f n
-lowest-more f zero m l e = absurd (let z : _≡_ {A = ℕ} 0 1 = cc in omega arith)
-lowest-more f (suc n) zero l e = absurd (omega arith)
-lowest-more f (suc n) (suc m) l e =
-    split (f 0) (λ t. rw t) (λ t. rw t (ap suc (lowest-more (λ i. f (suc i)) n m (omega arith) (rw t at (rw (some-up f n) at e)))))
+lowest-more f n m l e = let at = lowest-at f n e in lowest-once f m (lowestBelow f n) (omega (arith, l, at .0)) (at .1) (lowest-first f n)

@@ -4,6 +4,7 @@ use mathlib.Core.Logic.{_≢_}
 use mathlib.Core.Option.{none}
 use Prim.Native.Nat.{ℕ, _<_}
 use native.Mathlib.Omega.{arith}
+use borrow.Author.Tests.{ne-eqb}
 use Rattle.word.specs.Refusal.{numberOf, bitOf, bitNumber, bitBy}
 use Rattle.word.specs.declared.Refusal.{Refusal}
 use Rattle.word.specs.declared.Refusal.the-variants as refusal
@@ -38,13 +39,8 @@ has-bit refusal.StepRefused = other (λ e. omega arith) refl
 
 -- a bit comes back by the number
 pub bit-back : (r : Refusal) → bitBy (numberOf r) (bitNumber (bitOf r)) ≡ bitOf r
-bit-back refusal.StateLength = refl
-bit-back refusal.Shape = refl
-bit-back refusal.UnknownOpcode = refl
-bit-back (refusal.UnnamedBit i) = refl
-bit-back refusal.UndefinedMode = refl
-bit-back refusal.UnmodelledSettings = refl
-bit-back refusal.BankOwner = refl
-bit-back refusal.DstRow = refl
-bit-back refusal.UnsetRead = refl
-bit-back refusal.StepRefused = refl
+bit-back r = go (has-bit r)
+  where
+    go : HasBit r → bitBy (numberOf r) (bitNumber (bitOf r)) ≡ bitOf r
+    go (three i q) = rw q
+    go (other n e) = rw (e, ne-eqb (numberOf r) 3 n)
