@@ -95,7 +95,8 @@ uint64_t vintrazzola_step(uint32_t *record, size_t record_length, uint32_t threa
                           uint32_t *dst, size_t dst_length,
                           uint32_t *registers, size_t registers_length);
 
-/* The parts of an answer. The bit is one only where the number is 3: any other answer gives 0. */
+/* The parts of an answer. Look at the number first: only with number 3 is there a bit. Of any other answer
+   vintrazzola_bit gives 0. */
 #define VINTRAZZOLA_REFUSAL_BIT ((uint64_t)1 << 63)
 #define VINTRAZZOLA_BIT_UNIT ((uint64_t)1 << 40)
 #define VINTRAZZOLA_NUMBER_UNIT ((uint64_t)1 << 32)

@@ -117,7 +117,7 @@ int main(int argc, char **argv) {
     refused("INCRWC's mode", 0x38FC0000, 4, 0);
     refused("MVMUL's mode", 0x26380000, 4, 0);
     refused("an unknown opcode with all bits", 0xFFFFFFFF, 2, 0);
-    expect("no record before an unnamed bit", vintrazzola_bit(step(3, 0x21800000)), 0);
+    expect("no such thread before an unnamed bit", step(3, 0x21800000), VINTRAZZOLA_REFUSAL_BIT + VINTRAZZOLA_NUMBER_UNIT);
     expect("all that FLUSHDMA names", step(0, 0x4600000F), 0);
 
     printf("%d passed, %d failed\n", passed, failed);

@@ -1,6 +1,6 @@
 # The proved programs. Sourced by tests/programs/run.
 wrapper=$top/emulate
-cases=25
+cases=27
 is_built() (. tools/programs.sh && look && all_made)
 if [ "${1:-}" = --build ] && ! "$wrapper" --version; then
     wrong "the programs cannot be built"
@@ -15,6 +15,8 @@ else
     call examples/refused_8.job && ended "refused" 1 "$(cat examples/refused_8.out)"
     call --validate examples/register.job && ended "passed" 0 "passed 1"
     call --validate <examples/refused_8.job && ended "not passed" 1 "$(cat examples/refused_8.out)"
+    call examples/refused_3.job && ended "refused, with a bit" 1 "$(cat examples/refused_3.out)"
+    call --validate examples/refused_3.job && ended "not passed, with a bit" 1 "$(cat examples/refused_3.out)"
     call </dev/null && ended "an empty job" 1 "refused 1 at 0"
     call < <(head -c 100 examples/register.job && sleep 0.2 && tail -c +101 examples/register.job) && ended "a job in pieces" 0 "$(cat examples/register.out)"
     call < <(head -c 9000 /dev/zero) && ended "a job that is too long" 1 "refused 1 at 0"

@@ -51,7 +51,7 @@ def bit_doubt(pieces, answer):
         return f"the line of a refusal {answer.number} ends with its bit; one without it is an older emulator's"
     word = next((piece.value.word for piece in pieces if piece.at == answer.place and piece.kind is ISSUE), None)
     if word is None:
-        return f"no issue field begins at {answer.place}"
+        return f"no right issue field begins at {answer.place}"
     instruction = instruction_of(word)
     if instruction is None:
         return f"0x{word:08x} has an unknown opcode, and its bits do not count then"

@@ -42,8 +42,10 @@ def issue_note(piece):
     word, instruction = piece.value.word, instruction_of(piece.value.word)
     if instruction is None:
         return ", unknown opcode"
-    if instruction.unnamed(word):
-        return f", {instruction.name} with unnamed bits"
+    unnamed = instruction.unnamed(word)
+    if unnamed:
+        bits = "bit" if len(unnamed) == 1 else "bits"
+        return f", {instruction.name} with unnamed {bits} {' '.join(map(str, unnamed))}"
     note, numbers = f", 0x{word:08x}", instruction.numbers(word)
     if instruction.is_scalar() and not instruction.undefined(word):
         _, mode, result, a, b = word_text(word).split()

@@ -1,5 +1,5 @@
 -- Whatever the job, the record and the lent numbers, a caller gets the very answer back out of the packed number: `precheck-unpacked`,
--- `run-unpacked`, `step-unpacked`. For this, a place and a count are at most 8,192, and a bit at most 24. An answer without a bit
+-- `run-unpacked`, `step-unpacked`. For this, a place and a count are at most 8,192, and a bit below 24. An answer without a bit
 -- is as it was before there were bits: `without-bit`. Assumes nothing.
 use mathlib.Core.Path.{_≡_, refl}
 use mathlib.Core.List.{List}

@@ -16,7 +16,7 @@ numberUnit = 2 ^ 32
 abbrev pub bitUnit : ℕ
 bitUnit = 2 ^ 40
 
--- A count is itself, and a step that is done is 0. No answer loses anything by this: a place and a count are at most 8,192, a bit at most 24 (the laws
+-- A count is itself, and a step that is done is 0. No answer loses anything by this: a place and a count are at most 8,192, a bit below 24 (the laws
 -- `precheck-unpacked`, `run-unpacked` and `step-unpacked`).
 abbrev pub packed : Answer → ℕ
 packed done = 0

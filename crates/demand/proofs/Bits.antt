@@ -1,6 +1,6 @@
 -- Refusal 3 has the lowest offending bit of a word, from the word reader up to the pre-check. Assumes nothing.
 use mathlib.Core.Path.{_≡_, refl, sym, ap, _∙_, subst}
-use mathlib.Core.Bool.{Bool, true, false, cond, _&&_, not, false≢true}
+use mathlib.Core.Bool.{Bool, true, false, cond, _&&_, _||_, not, false≢true}
 use mathlib.Core.List.{List, [], _∷_}
 use mathlib.Core.Logic.{_⊎_, inl, inr, _≢_, ⊎-elim}
 use mathlib.Core.Option.{Option, none, some}
@@ -15,7 +15,7 @@ use Rattle.cells.proofs.Cells.{split, between-true}
 use Rattle.word.specs.Bits.{Range, bit, inRanges, lowestBelow}
 use Rattle.word.specs.Table.{Row, table, lookup}
 use Rattle.word.specs.Operands.{opcodeOf}
-use Rattle.word.specs.Word.{rowOf, strayAt, strayIn, offendingIn, unnamedBit, offendingBit}
+use Rattle.word.specs.Word.{rowOf, unknownIn, strayAt, strayIn, offendingIn, unknownOpcode, unnamedBit, offendingBit}
 use Rattle.word.specs.Refusal.{numberOf, bitOf}
 use Rattle.word.specs.Fields.{WordAnswer, fields, refusedBy, answerIn, wordAnswer}
 use Rattle.word.specs.declared.Refusal.{Refusal}
@@ -27,7 +27,7 @@ use Rattle.word.proofs.Numbers.{HasBit, has-bit}
 use Rattle.word.proofs.Numbers as numbers
 use Rattle.control.specs.declared.Control.{Control}
 use Rattle.control.specs.Record.{start}
-use Rattle.rules.specs.Rules.{lowest}
+use Rattle.rules.specs.Rules.{rules, operandRules, lowest, judgement}
 use Rattle.rules.specs.declared.Verdict.the-variants as verdict
 use Rattle.rules.proofs.Reading.{WordBit}
 use Rattle.job.specs.Bytes.{le2, le4}
@@ -46,7 +46,8 @@ use Rattle.precheck.specs.Check.{precheckOf}
 use Rattle.precheck.specs.declared.Checked.the-variants as checked
 use Rattle.precheck.proofs.Checking.{check-has, precheck-right, precheck-wrong}
 use Rattle.precheck.proofs.FieldBits.{field-bit}
-use Rattle.demand.specs.Offending.{Listed, Names, RowFor, LowestOffending, BitTold, three, other, WordBits}
+use Rattle.demand.specs.Breaks.{brokenRule}
+use Rattle.demand.specs.Offending.{Listed, Names, RowFor, LowestOffending, BitTold, three, other, WordTold, unknown, offending, WordBits, RuleBits}
 use Rattle.demand.specs.Demand.{wordIn}
 
 differ : {A : Type 0} → _≡_ {A = ℕ} 0 1 → A
@@ -151,32 +152,83 @@ module _ (w b : ℕ) (h : LowestOffending w b) where
 
 -- ---- the word reader
 
+or-false : (b : Bool) → (b || false) ≡ b
+or-false true = refl
+or-false false = refl
+
+-- a known opcode has a row, and back
+known-row : (w : ℕ) → unknownOpcode w ≡ true → (r : Row) → RowFor w r → ⊥
+unfolding unknownOpcode
+known-row w e r h = false≢true (sym (ap unknownIn (for-row w r h)) ∙ e)
+
+no-row : (w : ℕ) → ((r : Row) → RowFor w r → ⊥) → unknownOpcode w ≡ true
+unfolding unknownOpcode
+no-row w h = go (rowOf w) refl
+  where
+    go : (o : Option Row) → rowOf w ≡ o → unknownIn o ≡ true
+    go none q = refl
+    go (some r) q = absurd (h r (row-for w r q))
+
 pub word-bits : (w : ℕ) → WordBits w
-unfolding wordAnswer
+unfolding wordAnswer unknownOpcode
 word-bits w =
     record {
-      told = λ b e. told b (rowOf w) refl e;
-      tells = λ b h. rw (for-row w (h .row) (h .for), is-stray w b h, is-lowest w b h);
-      unknown = λ h. unknown h (rowOf w) refl;
-      known = λ e r h. known r (rw (for-row w r h) at e);
+      told = λ n x e. told n x (rowOf w) refl e;
+      two = λ h. two (rowOf w) (no-row w h);
+      three = λ b h. rw (for-row w (h .row) (h .for), is-stray w b h, is-lowest w b h);
     }
   where
-    told : (b : ℕ) (o : Option Row) → rowOf w ≡ o → answerIn o w ≡ refusedBy 3 (some b) → LowestOffending w b
-    told b none q e = differ (cc)
-    told b (some r) q e =
+    told : (n : ℕ) (x : Option ℕ) (o : Option Row) → rowOf w ≡ o → answerIn o w ≡ refusedBy n x → WordTold w n x
+    told n x none q e = let a : 2 ≡ n = cc in let b : none ≡ x = cc in unknown (sym a) (sym b) (known-row w (ap unknownIn q))
+    told n x (some r) q e =
         split (strayIn (some r) w)
-        (λ t. let e′ : refusedBy 3 (some (offendingIn (some r) w)) ≡ refusedBy 3 (some b) = rw t at e in let z : offendingIn (some r) w ≡ b = cc in subst (LowestOffending w) z (lowest-in w r q t))
-        (λ t. let e′ : fields _ _ ≡ refusedBy 3 (some b) = rw t at e in differ (cc))
+        (λ t.
+        let e′ : refusedBy 3 (some (offendingIn (some r) w)) ≡ refusedBy n x = rw t at e in
+        let a : 3 ≡ n = cc in
+        let b : some (offendingIn (some r) w) ≡ x = cc in
+        offending (offendingIn (some r) w) (sym a) (sym b) (lowest-in w r q t))
+        (λ t. let e′ : fields _ _ ≡ refusedBy n x = rw t at e in differ (cc))
 
-    unknown : ((r : Row) → RowFor w r → ⊥) → (o : Option Row) → rowOf w ≡ o → answerIn o w ≡ refusedBy 2 none
-    unknown h none q = refl
-    unknown h (some r) q = absurd (h r (row-for w r q))
+    two : (o : Option Row) → unknownIn o ≡ true → answerIn o w ≡ refusedBy 2 none
+    two none e = refl
+    two (some r) e = absurd (false≢true e)
 
-    known : (r : Row) → answerIn (some r) w ≡ refusedBy 2 none → ⊥
-    known r e =
-        split (strayIn (some r) w)
-        (λ t. let e′ : refusedBy 3 (some (offendingIn (some r) w)) ≡ refusedBy 2 none = rw t at e in differ (cc))
-        (λ t. let e′ : fields _ _ ≡ refusedBy 2 none = rw t at e in differ (cc))
+-- ---- the rules 2 and 3
+
+is-unnamed : (w b : ℕ) → LowestOffending w b → unnamedBit w ≡ true
+unfolding unnamedBit
+is-unnamed w b h = rw (for-row w (h .row) (h .for)) (is-stray w b h)
+
+is-offending : (w b : ℕ) → LowestOffending w b → offendingBit w ≡ b
+unfolding offendingBit
+is-offending w b h = rw (for-row w (h .row) (h .for)) (is-lowest w b h)
+
+is-known : (w b : ℕ) → LowestOffending w b → unknownOpcode w ≡ false
+unfolding unknownOpcode
+is-known w b h = ap unknownIn (for-row w (h .row) (h .for))
+
+module _ (c : Control) (t w : ℕ) where
+  by-two : brokenRule refusal.UnknownOpcode (rules c t w) ≡ unknownOpcode w
+  unfolding brokenRule rules operandRules
+  by-two = or-false (unknownOpcode w)
+
+  by-three : (q : Refusal) → numberOf q ≡ 3 → brokenRule q (rules c t w) ≡ unnamedBit w
+  unfolding brokenRule rules operandRules
+  by-three q e = rw e (or-false (unnamedBit w))
+
+  pub rule-bits : RuleBits c t w
+  rule-bits =
+      record {
+        unknown = λ e. known-row w (sym by-two ∙ e);
+        two = λ h. by-two ∙ no-row w h;
+        offends = λ q n e. (offendingBit w, lowest-of w (sym (by-three q n) ∙ e));
+        three = λ q n b h. by-three q n ∙ is-unnamed w b h;
+      }
+
+  -- a word with an offending bit is judged by that
+  pub judged-three : (b : ℕ) → LowestOffending w b → judgement c t w ≡ verdict.Refused (refusal.UnnamedBit b)
+  unfolding judgement rules lowest
+  judged-three b h = rw (is-known w b h, is-unnamed w b h, is-offending w b h)
 
 -- ---- a refusal by a word, of the single step
 

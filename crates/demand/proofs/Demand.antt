@@ -154,7 +154,7 @@ module _ (job : List ℕ) where
         misshapen = λ p h. precheck-wrong job p (first-wrong job p h);
         found = named-by;
         named = tabled;
-        issue = λ r p e. precheck-told job r p e .0;
+        at-issue = λ r p e. precheck-told job r p e .0;
         bit = λ r p e. precheck-told job r p e .1;
         refuses = λ r p e s l. run-refused job s (size s l) r p e;
         values = λ w other o. values-same job other (λ f. true) o;
@@ -204,7 +204,7 @@ module _ (job : List ℕ) where
           unsized = λ h. run-unsized job s (unsized s (λ z. h (lengths-of s z)));
           kept = λ r p o. refused r p o .0;
           tabled = λ r p o. ⊎-elim (λ q. rw q) (λ e. or-right (eqb (numberOf r) 9) _ (tabled r p e)) (refused r p o .1);
-          issue = λ r p o. told-by r p o .0;
+          at-issue = λ r p o. told-by r p o .0;
           bit = λ r p o. told-by r p o .1;
           line = line;
           written = run-written job s;

@@ -26,7 +26,7 @@ use Rattle.demand.specs.Breaks.{brokenRule}
 use Rattle.demand.specs.Demand.{stepNumbers, Lengths, StepDemand1}
 use Rattle.demand.specs.RecordRange.{RecordIn}
 use Rattle.demand.proofs.Ranges.{record-ok, record-in}
-use Rattle.demand.proofs.Bits.{told-of}
+use Rattle.demand.proofs.Bits.{told-of, judged-three}
 use Rattle.demand.proofs.Rules.{never, none-broken, rising, Lowest, lowest-is, lowest-numbered}
 
 differ : {A : Type 0} → _≡_ {A = ℕ} 0 1 → A
@@ -122,6 +122,7 @@ module _ (c : Control) (t w : ℕ) (s : State) where
         record-kept = λ r e. rw e;
         tabled = tabled;
         bit = λ r e. told-of w r (step-bit c t w s r e);
+        three = λ l i h b o. by-rules l i h ∙ judged-three c t w b o;
         answered = λ r e. rw e;
         answered-done = λ e. rw e;
         nine = nine;

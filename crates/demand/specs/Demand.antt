@@ -16,7 +16,7 @@ use Rattle.word.specs.Word.{wordOperands}
 use Rattle.word.specs.declared.MultiplyWord.{MultiplyWord}
 use Rattle.word.specs.declared.Operands.the-variants as operands
 use Rattle.word.specs.declared.Refusal.{Refusal}
-use Rattle.word.specs.declared.Refusal.the-variants.{Shape, StateLength, UnmodelledSettings, DstRow}
+use Rattle.word.specs.declared.Refusal.the-variants.{Shape, StateLength, UnnamedBit, UnmodelledSettings, DstRow}
 use Rattle.control.specs.declared.Control.{Control}
 use Rattle.control.specs.declared.Settings.{Settings}
 use Rattle.control.specs.Record.{start, threadAt, widthOf}
@@ -39,7 +39,7 @@ use Rattle.lines.specs.Printed.{printedOf, textsOf}
 use Rattle.run.specs.declared.Outcome.the-variants.{Finished, Refused}
 use Rattle.demand.specs.WellShaped.{WellShaped, fieldsOf, tagged, FirstWrong}
 use Rattle.demand.specs.RecordRange.{RecordIn}
-use Rattle.demand.specs.Offending.{BitTold}
+use Rattle.demand.specs.Offending.{LowestOffending, BitTold}
 use Rattle.demand.specs.Meetings.{Meeting, meetingAt, Goes, leaves}
 use Rattle.demand.specs.Breaks.{brokenRule, breaks, FirstBroken, issueFields}
 
@@ -115,7 +115,7 @@ pub record Demand3 (job : List ℕ) : Type 0 where
   -- with one of the numbers 1 to 8
   pub named : (r : Refusal) (p : ℕ) → precheckOf job ≡ checked.Refused r p → oneOf (numberOf r) jobNumbers ≡ true
   -- number 3 is given at an issue field and has exactly the lowest offending bit of its word; no other number has a bit
-  pub issue : (r : Refusal) (p : ℕ) → precheckOf job ≡ checked.Refused r p → numberOf r ≡ 3 → getD job p 0 ≡ 5
+  pub at-issue : (r : Refusal) (p : ℕ) → precheckOf job ≡ checked.Refused r p → numberOf r ≡ 3 → getD job p 0 ≡ 5
   pub bit : (r : Refusal) (p : ℕ) → precheckOf job ≡ checked.Refused r p → BitTold (wordIn job p) r
   -- and a run over any state of the right sizes refuses it with the same number, place and bit, and leaves the state
   pub refuses : (r : Refusal) (p : ℕ) → precheckOf job ≡ checked.Refused r p → (s : State) → Lengths s → runOf job s ≡ ran (Refused r p) s
@@ -132,7 +132,7 @@ pub record Demand1 (job : List ℕ) (s : State) : Type 0 where
   pub kept : (r : Refusal) (p : ℕ) → runOf job s .outcome ≡ Refused r p → runOf job s .state ≡ s
   pub tabled : (r : Refusal) (p : ℕ) → runOf job s .outcome ≡ Refused r p → oneOf (numberOf r) runNumbers ≡ true
   -- number 3 is given at an issue field and has exactly the lowest offending bit of its word; no other number has a bit
-  pub issue : (r : Refusal) (p : ℕ) → runOf job s .outcome ≡ Refused r p → numberOf r ≡ 3 → getD job p 0 ≡ 5
+  pub at-issue : (r : Refusal) (p : ℕ) → runOf job s .outcome ≡ Refused r p → numberOf r ≡ 3 → getD job p 0 ≡ 5
   pub bit : (r : Refusal) (p : ℕ) → runOf job s .outcome ≡ Refused r p → BitTold (wordIn job p) r
   -- all that a refused run prints is the refusal's line
   pub line : (r : Refusal) (p : ℕ) → runOf job s .outcome ≡ Refused r p → textsOf job (runOf job s) ≡ refusedText (numberOf r) p (bitOf r) ∷ []
@@ -145,8 +145,9 @@ pub record StepDemand1 (c : Control) (t w : ℕ) (s : State) : Type 0 where
   pub kept : (r : Refusal) → verdictOf c t w s ≡ verdict.Refused r → stateOf c t w s ≡ s
   pub record-kept : (r : Refusal) → verdictOf c t w s ≡ verdict.Refused r → steppedOf c t w s .control ≡ c
   pub tabled : (r : Refusal) → verdictOf c t w s ≡ verdict.Refused r → oneOf (numberOf r) stepNumbers ≡ true
-  -- 3 has exactly the lowest offending bit of the word; no other number has a bit
+  -- 3 has exactly the lowest offending bit of the word, and is given where there is one; no other number has a bit
   pub bit : (r : Refusal) → verdictOf c t w s ≡ verdict.Refused r → BitTold w r
+  pub three : Lengths s → RecordIn c → t < 3 → (b : ℕ) → LowestOffending w b → verdictOf c t w s ≡ verdict.Refused (UnnamedBit b)
   -- in numbers, always at place 0
   pub answered : (r : Refusal) → verdictOf c t w s ≡ verdict.Refused r → stepAnswer c t w s ≡ refused (numberOf r) 0 (bitOf r)
   pub answered-done : verdictOf c t w s ≡ verdict.Done → stepAnswer c t w s ≡ done

@@ -1,7 +1,7 @@
 -- What the buyer signs for, as statements over the definitions that the contracts cite.
 pub mod WellShaped
 pub mod RecordRange
-pub mod Offending
 pub mod Breaks
+pub mod Offending
 pub mod Meetings
 pub mod Demand

@@ -109,11 +109,12 @@ lineOf (what.Register t r) dst registers = value t r (getD registers (register t
 unfoldable pub finishedText : ℕ → List ℕ
 finishedText n = wordFinished ++ decimal n ++ 10 ∷ []
 
--- `refused 8 at 180`; with a bit `refused 3 at 172 bit 16`
+-- ` bit 16`, or nothing
 unfoldable pub bitText : Option ℕ → List ℕ
 bitText none = []
 bitText (some i) = wordBit ++ decimal i
 
+-- `refused 8 at 180`; with a bit `refused 3 at 172 bit 16`
 unfoldable pub refusedText : ℕ → ℕ → Option ℕ → List ℕ
 refusedText n p i = wordRefused ++ decimal n ++ wordAt ++ decimal p ++ bitText i ++ 10 ∷ []
 

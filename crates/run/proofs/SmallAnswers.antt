@@ -1,4 +1,4 @@
--- A job's answer is small: its count or its place is at most 8,192, and a bit, which refusal 3 alone has, at most 24. So is a step's bit. Assumes nothing.
+-- A job's answer is small: its count or its place is at most 8,192, and a bit, which refusal 3 alone has, below 24. So is a step's bit. Assumes nothing.
 use mathlib.Core.Path.{_≡_, refl}
 use mathlib.Core.Bool.{true}
 use mathlib.Core.List.{List, [], _∷_}
@@ -12,7 +12,7 @@ use Rattle.cells.specs.Layout.{jobBytes}
 use Rattle.cells.specs.State.{State, sized}
 use Rattle.cells.proofs.Cells.{split}
 use Rattle.word.proofs.Numbers.{number-byte, HasBit, three, other, has-bit, bit-back}
-use Rattle.word.proofs.ReadWords.{offending-most}
+use Rattle.word.proofs.ReadWords.{offending-low}
 use Rattle.word.specs.Refusal.{numberOf, bitOf, bitNumber, bitBy, Answer, done, passed, finished, refused}
 use Rattle.word.specs.declared.Refusal.{Refusal}
 use Rattle.word.specs.declared.Refusal.the-variants as refusal
@@ -45,9 +45,9 @@ use Rattle.run.proofs.Running.{run-unsized, run-refused, run-passed}
 
 -- a bit beside a number
 abbrev pub SmallBit : ℕ → Option ℕ → Type 0
-SmallBit number bit = (bitBy number (bitNumber bit) ≡ bit) × (bitNumber bit ≤ 24)
+SmallBit number bit = (bitBy number (bitNumber bit) ≡ bit) × (bitNumber bit < 24)
 
--- a job's answer whose count or place is at most 8,192
+-- a job's answer whose count or place is at most 8,192, and whose bit is small
 abbrev pub Small : Answer → Type 0
 Small done = ⊥
 Small (passed n) = n ≤ jobBytes
@@ -55,10 +55,10 @@ Small (finished n) = n ≤ jobBytes
 Small (refused number place bit) = (number < 256) × (place ≤ jobBytes) × SmallBit number bit
 
 -- a refusal whose bit, if it has one, is small
-pub bit-small : (r : Refusal) → ((i : ℕ) → r ≡ refusal.UnnamedBit i → i ≤ 24) → SmallBit (numberOf r) (bitOf r)
+pub bit-small : (r : Refusal) → ((i : ℕ) → r ≡ refusal.UnnamedBit i → i < 24) → SmallBit (numberOf r) (bitOf r)
 bit-small r h = (bit-back r, go (has-bit r))
   where
-    go : HasBit r → bitNumber (bitOf r) ≤ 24
+    go : HasBit r → bitNumber (bitOf r) < 24
     go (three i q) = rw q (h i q)
     go (other n b) = rw b (omega arith)
 
@@ -70,7 +70,7 @@ no-bit number e = (e, omega arith)
 
 pub step-small : (c : Control) (t w : ℕ) (s : State) (r : Refusal) → steppedOf c t w s .verdict ≡ verdict.Refused r → SmallBit (numberOf r) (bitOf r)
 unfolding steppedOf
-step-small c t w s r e = bit-small r (λ i q. omega (arith, step-bit c t w s r e i q .1, offending-most w))
+step-small c t w s r e = bit-small r (λ i q. let b = step-bit c t w s r e i q in omega (arith, b .1, offending-low w (b .0)))
 
 -- ---- the fields of a short job
 
@@ -100,8 +100,8 @@ unfolding checkFrom
 check-small job [] c m n i = i
 check-small job (f ∷ fs) c m n i = go (lowest (fieldRules c m (f .kind))) refl _ (check-small job fs _ _ _ (i .1))
   where
-    bit : (r : Refusal) → lowest (fieldRules c m (f .kind)) ≡ verdict.Refused r → (i : ℕ) → r ≡ refusal.UnnamedBit i → i ≤ 24
-    bit r e i q = let b = field-bit c m (f .kind) r e i q in omega (arith, b .bit, offending-most (b .word))
+    bit : (r : Refusal) → lowest (fieldRules c m (f .kind)) ≡ verdict.Refused r → (i : ℕ) → r ≡ refusal.UnnamedBit i → i < 24
+    bit r e i q = let b = field-bit c m (f .kind) r e i q in omega (arith, b .bit, offending-low (b .word) (b .unnamed))
 
     go : (v : Verdict) → lowest (fieldRules c m (f .kind)) ≡ v → (next : Checked) → Small (checkedAnswer next) → Small (checkedAnswer (unlessBroken v (f .place) next))
     go verdict.Done e next h = h

@@ -21,7 +21,7 @@ lowest-first f (suc n) i l = split (f 0) (λ t. absurd (none t)) (λ t. go (λ k
     go up zero t l = t
     go up (suc i) t l = up i (let l′ : suc i < suc (lowestBelow (λ i. f (suc i)) n) = rw t at l in omega arith)
 
--- the first number apart
+-- number 0 apart from the rest
 pub some-up : (f : ℕ → Bool) (n : ℕ) → someBelow f (suc n) ≡ (f 0 || someBelow (λ i. f (suc i)) n)
 some-up f zero = go (f 0)
   where
@@ -45,10 +45,6 @@ lowest-same f g (suc n) h =
     let up = lowest-same (λ i. f (suc i)) (λ i. g (suc i)) n (λ i l. h (suc i) (omega arith)) in
     λ j. cond (h 0 (omega arith) j) 0 (suc (up j))
 
-pub lowest-most : (f : ℕ → Bool) (n : ℕ) → lowestBelow f n ≤ n
-lowest-most f zero = omega arith
-lowest-most f (suc n) = split (f 0) (λ t. rw t (omega arith)) (λ t. rw t (omega (arith, lowest-most (λ i. f (suc i)) n)))
-
 -- where it passes at some, it passes there
 pub lowest-at : (f : ℕ → Bool) (n : ℕ) → someBelow f n ≡ true → (lowestBelow f n < n) × (f (lowestBelow f n) ≡ true)
 lowest-at f zero e = absurd (let z : _≡_ {A = ℕ} 0 1 = cc in omega arith)
@@ -71,7 +67,7 @@ some-at f (suc n) (suc i) l e = rw (some-up f n, some-at (λ i. f (suc i)) n i (
     or-true true = refl
     or-true false = refl
 
--- no other number at which it passes has only such below it at which it fails
+-- a number that passes while every lower one fails is the lowest
 pub lowest-once : (f : ℕ → Bool) (n b : ℕ) → b < n → f b ≡ true → ((i : ℕ) → i < b → f i ≡ false) → lowestBelow f n ≡ b
 lowest-once f n b l e h =
     let k = lowestBelow f n in

@@ -2,7 +2,7 @@
 use mathlib.Core.Path.{_≡_, refl, _∙_}
 use mathlib.Core.Bool.{Bool, true, false, not}
 use mathlib.Core.Option.{Option, none, some}
-use Prim.Native.Nat.{ℕ, _≤_}
+use Prim.Native.Nat.{ℕ, _<_}
 use native.Mathlib.Omega.{arith}
 use Rattle.cells.proofs.Cells.{split}
 use Rattle.word.specs.Table.{Row}
@@ -15,7 +15,7 @@ use Rattle.word.specs.declared.Operands.{Operands}
 use Rattle.word.specs.declared.Read.{Read}
 use Rattle.word.specs.declared.Read.the-variants as read
 use Rattle.word.specs.declared.Refusal.the-variants.{UnknownOpcode, UnnamedBit}
-use Rattle.word.proofs.Lowest.{lowest-most}
+use Rattle.word.proofs.Lowest.{lowest-at}
 use Rattle.word.proofs.Rule.{mask-ranges, mask-offending}
 
 -- ---- by the entry that is found
@@ -68,12 +68,12 @@ was-read w f e = go (unknownOpcode w) (unnamedBit w) refl refl e
     go false true p q e = absurd (let z : _≡_ {A = ℕ} 0 1 = cc in omega arith)
     go false false p q e = record { known = p; named = q; operands = cc }
 
--- ---- the lowest offending bit, 24 where there is none
+-- ---- where an unnamed bit is 1, the lowest is one of the 24
 
-pub offending-most : (w : ℕ) → offendingBit w ≤ 24
-unfolding offendingBit
-offending-most w = go (rowOf w)
+pub offending-low : (w : ℕ) → unnamedBit w ≡ true → offendingBit w < 24
+unfolding unnamedBit offendingBit
+offending-low w e = go (rowOf w) e
   where
-    go : (o : Option Row) → offendingIn o w ≤ 24
-    go none = omega arith
-    go (some r) = lowest-most (strayAt (r .named) w) 24
+    go : (o : Option Row) → strayIn o w ≡ true → offendingIn o w < 24
+    go none e = absurd (let z : _≡_ {A = ℕ} 0 1 = cc in omega arith)
+    go (some r) e = lowest-at (strayAt (r .named) w) 24 e .0

@@ -118,9 +118,9 @@ def doubted():
     lower = "bit 16 of 0x26050000 is 1 and unnamed too, and the lowest counts"
     opcode = "0x28010000 has an unknown opcode, and its bits do not count then"
     for name, data, place, bit, doubt, answer in (
-        ("a field of another kind", mvmul, NEXT, 16, f"no issue field begins at {NEXT}", own),
-        ("the settings", mvmul, 0, 0, "no issue field begins at 0", own),
-        ("the end of the file", register, 185, 23, "no issue field begins at 185", "finished"),
+        ("a field of another kind", mvmul, NEXT, 16, f"no right issue field begins at {NEXT}", own),
+        ("the settings", mvmul, 0, 0, "no right issue field begins at 0", own),
+        ("the end of the file", register, 185, 23, "no right issue field begins at 185", "finished"),
         ("an unknown opcode", word_job(0x28010000), AT, 16, opcode, f"refused 2 at {AT}"),
         ("a named bit that is 0", mvmul, AT, 14, "MVMUL names bit 14: 15:14 slot", own),
         ("a named bit that is 1", register, 172, 23, "BITWOPDMAREG names bit 23: 23 constant", "finished"),
@@ -187,4 +187,10 @@ def lines():
         yield equal(f"{text!r} is written", str(answer), text.strip())
 
 
-GROUPS = (judged, explained, nearest, doubted, older, turned_down, lines)
+def listed():
+    """A listing names the unnamed bits of a word, also where no refusal is given."""
+    for name, note in (("refused_3", "MVMUL with unnamed bit 16"), ("refused_3_lowest", "SETRWC with unnamed bits 4 5")):
+        yield has(f"{name} is listed with its bits", listing(read(name, "job")), f", {note}\n")
+
+
+GROUPS = (judged, explained, nearest, doubted, older, turned_down, lines, listed)
