@@ -28,7 +28,7 @@ abbrev pub Names : List Range → ℕ → Type 0
 Names [] i = ⊥
 Names (x ∷ xs) i = ((x .lo ≤ i) × (i ≤ x .hi)) ⊎ Names xs i
 
--- bits 31:24 of w are the row's opcode
+-- a row of the table that has bits 31:24 of w as its opcode
 pub record RowFor (w : ℕ) (r : Row) : Type 0 where
   pub listed : Listed r table
   pub opcode : r .opcode ≡ w / 2 ^ 24 % 2 ^ 8
