@@ -1,6 +1,6 @@
 -- Refusal 3 has the lowest offending bit of a word, from the word reader up to the pre-check. Assumes nothing.
 use mathlib.Core.Path.{_≡_, refl, sym, ap, _∙_, subst}
-use mathlib.Core.Bool.{Bool, true, false, cond, _&&_, _||_, not, false≢true}
+use mathlib.Core.Bool.{Bool, true, false, not, and-false, or-false, false≢true}
 use mathlib.Core.List.{List, [], _∷_}
 use mathlib.Core.Logic.{_⊎_, inl, inr, _≢_, ⊎-elim}
 use mathlib.Core.Option.{Option, none, some}
@@ -50,7 +50,7 @@ use Rattle.demand.specs.Breaks.{brokenRule}
 use Rattle.demand.specs.Offending.{Listed, Names, RowFor, LowestOffending, BitTold, three, other, WordTold, unknown, offending, WordBits, RuleBits}
 use Rattle.demand.specs.Demand.{wordIn}
 
-differ : {A : Type 0} → _≡_ {A = ℕ} 0 1 → A
+pub differ : {A : Type 0} → _≡_ {A = ℕ} 0 1 → A
 differ z = absurd (omega arith)
 
 -- ---- a bit that is 1 and not named
@@ -89,11 +89,7 @@ module _ (rs : List Range) (w i : ℕ) where
 
   off-stray : (w / 2 ^ i % 2 ≡ 0) ⊎ Names rs i → strayAt rs w i ≡ false
   off-stray h =
-      ⊎-elim (λ z. rw (ne-eqb (w / 2 ^ i % 2) 1 (λ o. omega (arith, z, o)))) (λ n. rw (named rs i n) (both-off (bit w i))) h
-    where
-      both-off : (b : Bool) → (b && false) ≡ false
-      both-off true = refl
-      both-off false = refl
+      ⊎-elim (λ z. rw (ne-eqb (w / 2 ^ i % 2) 1 (λ o. omega (arith, z, o)))) (λ n. rw (named rs i n) (and-false (bit w i))) h
 
 -- ---- the row of a word
 
@@ -151,10 +147,6 @@ module _ (w b : ℕ) (h : LowestOffending w b) where
   is-lowest = lowest-once (strayAt (h .row .named) w) 24 b (h .below) stray-at (λ i l. off-stray (h .row .named) w i (h .lower i l))
 
 -- ---- the word reader
-
-or-false : (b : Bool) → (b || false) ≡ b
-or-false true = refl
-or-false false = refl
 
 -- a known opcode has a row, and back
 known-row : (w : ℕ) → unknownOpcode w ≡ true → (r : Row) → RowFor w r → ⊥

@@ -26,11 +26,8 @@ use Rattle.demand.specs.Breaks.{brokenRule}
 use Rattle.demand.specs.Demand.{stepNumbers, Lengths, StepDemand1}
 use Rattle.demand.specs.RecordRange.{RecordIn}
 use Rattle.demand.proofs.Ranges.{record-ok, record-in}
-use Rattle.demand.proofs.Bits.{told-of, judged-three}
+use Rattle.demand.proofs.Bits.{differ, told-of, judged-three}
 use Rattle.demand.proofs.Rules.{never, none-broken, rising, Lowest, lowest-is, lowest-numbered}
-
-differ : {A : Type 0} → _≡_ {A = ℕ} 0 1 → A
-differ z = absurd (omega arith)
 
 -- the lengths, here and in the layout
 pub sizes-of : (s : State) → Lengths s → Sizes s

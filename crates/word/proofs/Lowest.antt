@@ -1,6 +1,6 @@
 -- The lowest number below n at which a test passes. Assumes nothing.
 use mathlib.Core.Path.{_≡_, refl, sym, ap, _∙_}
-use mathlib.Core.Bool.{Bool, true, false, cond, _||_, false≢true}
+use mathlib.Core.Bool.{Bool, true, false, cond, _||_, or-true, false≢true}
 use Prim.Native.Nat.{ℕ, zero, suc, _≤_, _<_}
 use native.Mathlib.Nat.{le-refl, le-step}
 use native.Mathlib.Omega.{arith}
@@ -62,10 +62,6 @@ pub some-at : (f : ℕ → Bool) (n i : ℕ) → i < n → f i ≡ true → some
 some-at f zero i l e = absurd (omega arith)
 some-at f (suc n) zero l e = rw (some-up f n, e)
 some-at f (suc n) (suc i) l e = rw (some-up f n, some-at (λ i. f (suc i)) n i (omega arith) e) (or-true (f 0))
-  where
-    or-true : (b : Bool) → (b || true) ≡ true
-    or-true true = refl
-    or-true false = refl
 
 -- a number that passes while every lower one fails is the lowest
 pub lowest-once : (f : ℕ → Bool) (n b : ℕ) → b < n → f b ≡ true → ((i : ℕ) → i < b → f i ≡ false) → lowestBelow f n ≡ b
