@@ -10,7 +10,7 @@
    The answer is one number.
      Below 2^63: the job finished (the run) or passed (the pre-check), and the number is the count of its issue fields;
      of a step it is 0: done.
-     Else it was refused: 2^63 + bit * 2^40 + number * 2^32 + place. The number is 1 to 10, as the README's table says;
+     Else it was refused: 2^63 + bit * 2^40 + number * 2^32 + place. The number is 1 to 9, as the README's table says;
      the place is the byte offset of the field's tag, or the job's length where no output stands, and 0 for a job over
      8,192 bytes or a wrong length of a file. Number 3 alone has a bit, 0 to 23: the lowest of the word's that is 1 and
      not named by the instruction's row. With any other number there is none, and 0 stands in its place. A step is refused

@@ -1,7 +1,7 @@
 //! One job through both programs.
 
 use super::lent::{difference, missize};
-use super::{proved, Refusals};
+use super::{given, proved, Refusals};
 use crate::engine::{
     lines, precheck, run, shape, width_of, Answer, Refusal, State, Width, JOB_BYTES,
 };
@@ -39,8 +39,11 @@ impl Tally {
     }
 }
 
-fn same(what: &str, got: u64, expected: &Answer) -> Result<(), String> {
-    if got == proved::packed(expected) {
+/// Both programs' answers of an entry that gives these numbers.
+fn same(what: &str, numbers: &[u8], got: u64, expected: &Answer) -> Result<(), String> {
+    let packed = proved::packed(expected);
+    given(numbers, [got, packed]).map_err(|fault| format!("{what}: {fault}"))?;
+    if got == packed {
         Ok(())
     } else {
         let expected = expected.line("finished");
@@ -52,9 +55,10 @@ fn same(what: &str, got: u64, expected: &Answer) -> Result<(), String> {
 pub fn compare(rng: &mut Rng, tally: &mut Tally) -> Result<(), String> {
     let bytes = job(rng);
     let expected = precheck(&bytes);
-    same("pre-check", proved::precheck(&bytes), &expected)?;
+    let numbers = Refusal::OF_PRECHECK;
+    same("pre-check", numbers, proved::precheck(&bytes), &expected)?;
     let reloaded = proved::precheck(&reload(rng, &bytes));
-    same("pre-check of other values", reloaded, &expected)?;
+    same("pre-check of other values", numbers, reloaded, &expected)?;
     tally.over_long += u64::from(bytes.len() > JOB_BYTES);
     let halves = u64::from(width_of(&shape(&bytes).0) == Width::Bits16);
     tally.halves[0] += halves;
@@ -95,7 +99,8 @@ pub fn compare(rng: &mut Rng, tally: &mut Tally) -> Result<(), String> {
 fn compare_run(what: &str, job: &[u8], expected: &Answer, lent: &State) -> Result<State, String> {
     let (mut second, mut after) = (lent.clone(), lent.clone());
     let answer = run(job, &mut second);
-    same(what, proved::run(job, &mut after), expected)?;
+    let got = proved::run(job, &mut after);
+    same(what, Refusal::OF_RUN, got, expected)?;
     if answer != *expected {
         return Err(format!("{what}: the second program's is {answer:?}"));
     }
@@ -109,7 +114,8 @@ fn compare_missized(rng: &mut Rng, job: &[u8]) -> Result<(), String> {
     missize(rng, &mut lent);
     let mut after = lent.clone();
     let nine = Refusal::LentLength.at(0);
-    same("wrong lengths", proved::run(job, &mut after), &nine)?;
+    let got = proved::run(job, &mut after);
+    same("wrong lengths", Refusal::OF_RUN, got, &nine)?;
     let answer = run(job, &mut lent.clone());
     if answer != nine {
         return Err(format!("wrong lengths: the second program's is {answer:?}"));

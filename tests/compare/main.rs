@@ -44,6 +44,17 @@ impl Refusals {
     }
 }
 
+/// Both programs' packed answers, the proved one's first: a refusal's number has to be one that the
+/// entry gives, be it the same in both.
+fn given(numbers: &[u8], packed: [u64; 2]) -> Result<(), String> {
+    for (program, answer) in ["proved", "second"].into_iter().zip(packed) {
+        if let Some(number) = proved::number(answer).filter(|number| !numbers.contains(number)) {
+            return Err(format!("the {program} program gives the number {number}"));
+        }
+    }
+    Ok(())
+}
+
 /// Holds the two together so many times, and says how often they differed.
 fn hold(
     name: &str,

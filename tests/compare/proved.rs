@@ -61,6 +61,11 @@ pub fn step(record: &mut [u32], thread: u32, word: u32, state: &mut State) -> u6
     unsafe { vintrazzola_step(record.as_mut_ptr(), record.len(), thread, word, state) }
 }
 
+/// The number of a packed refusal.
+pub fn number(packed: u64) -> Option<u8> {
+    (packed >> 63 == 1).then_some((packed >> 32) as u8)
+}
+
 /// An answer as one number: a count, or 2^63 with the refusal's bit from 2^40 on, its number from
 /// 2^32 on and its place. Only a refusal 3 has a bit.
 pub fn packed(answer: &Answer) -> u64 {

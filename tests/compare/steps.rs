@@ -2,7 +2,7 @@
 
 use super::lent::{difference, missize, resize};
 use super::record::{control, numbers};
-use super::{proved, Refusals};
+use super::{given, proved, Refusals};
 use crate::engine::{step, Control, Entry, Refusal, State, Width, THREADS};
 use crate::generate::numbers::state;
 use crate::generate::records::record;
@@ -88,6 +88,7 @@ impl Pair {
         let refusal = self.second_step(thread, word);
         let got = proved::step(&mut self.numbers, thread, word, &mut self.proved);
         let expected = refusal.map_or(0, |refusal| proved::packed(&refusal.at(0)));
+        given(Refusal::OF_STEP, [got, expected])?;
         if got != expected {
             return Err(format!("{got:#x}, not {expected:#x}"));
         }

@@ -90,6 +90,13 @@ impl Held {
         must(same, &format!("{answer:?} but {answers:?}"))
     }
 
+    /// A refusal's number is one of the pre-check's.
+    fn numbers(&self) -> Verdict {
+        let number = self.answer.number();
+        let right = number.is_none_or(|number| Refusal::OF_PRECHECK.contains(&number));
+        must(right, &format!("answered {:?}", self.answer))
+    }
+
     /// Other loaded values change no answer.
     fn reloads(&self) -> Verdict {
         let (answer, reloaded) = (&self.answer, &self.reloaded);
@@ -172,8 +179,8 @@ impl Held {
     }
 }
 
-/// A refused step changes nothing and a 3 tells the lowest unnamed bit; a done step leaves a record
-/// in range and writes Dst in its own rows alone.
+/// A refused step has one of its numbers and changes nothing, and a 3 tells the lowest unnamed bit;
+/// a done step leaves a record in range and writes Dst in its own rows alone.
 fn check_step(rng: &mut Rng, lent: &State) -> Verdict {
     let (old_record, mut old_state) = (record(rng), lent.clone());
     if rng.one_in(20) {
@@ -192,7 +199,7 @@ fn check_step(rng: &mut Rng, lent: &State) -> Verdict {
         }
         Some(Refusal::DstRow) => kept && width == Width::Bits32,
         Some(Refusal::UnnamedBit { bit }) => kept && is_lowest(bit, word),
-        Some(_) => kept,
+        Some(refusal) => kept && Refusal::OF_STEP.contains(&refusal.number()),
     };
     must(right, &format!("answered {refusal:?}"))
 }
@@ -207,6 +214,7 @@ pub fn check(seed: u64, count: u64) -> (String, bool) {
         halves += u64::from(held.width() == Width::Bits16);
         let tests = [
             Held::agrees,
+            Held::numbers,
             Held::reloads,
             Held::ranges,
             Held::steps,

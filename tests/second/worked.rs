@@ -610,3 +610,112 @@ pub fn bit_jobs() -> Vec<Vec<u8>> {
     let jobs = TOLD.map(|(words, _)| bytes(&with_words(words)));
     jobs.to_vec()
 }
+
+// -------------------------------------------------- Done only by what instructions before it left
+
+/// A word on its thread.
+type OnThread = (usize, u32);
+
+/// An MVMUL with nothing to add to the base, and an INCRWC that adds 8 to Dst.
+pub const AT_BASE: u32 = 0x2600_0000;
+pub const ADD_8: u32 = 0x3802_0000;
+
+/// A job in which the base alone leads to row 1016, past all 32-bit rows, and a Dst counter of 8 to
+/// 1024, which wraps to row 0: there a multiply adds 1 + 2. Slot 1 of every thread adds 8 to Dst.
+/// Rows 0 to 7 alone are set, and row 0 is put out. The first of the words stands at 1726.
+fn from_row_1016(format: u8, flags: u8, words: &[OnThread]) -> Vec<Written> {
+    let mut record = Control::under(format, flags);
+    record.base = 1016;
+    for thread in &mut record.threads {
+        thread.slots[1].dst_step = EIGHT as u16;
+    }
+    let mut job = vec![settings_of(&record)];
+    job.extend(powers(&[0, 1]));
+    job.push(zero(0, EIGHT));
+    job.extend(words.iter().map(|&(thread, word)| issue_on(thread, word)));
+    job.push(rows_out(0, 1));
+    job
+}
+
+/// Such a job with 32-bit rows, and with 16-bit ones, of which row 1016 is one that is unset.
+pub fn by_counter(words: &[OnThread]) -> Vec<Written> {
+    from_row_1016(TF32, FP32, words)
+}
+
+pub fn by_counter_in_halves(words: &[OnThread]) -> Vec<Written> {
+    from_row_1016(BF16, 0, words)
+}
+
+/// A finished job's row: 1 + 2 once, and twice.
+const ONCE: &str = "40400000";
+const TWICE: &str = "40c00000";
+
+/// Words for such a job, its first line, and its number in column 0 where it finishes.
+type Reached = (&'static [OnThread], &'static str, &'static str);
+pub const REACHED: [Reached; 18] = [
+    // Row 1016 without the INCRWC and row 0 with it, for each of the multiplies.
+    (&[(0, AT_BASE)], "refused 7 at 1726", ""),
+    (&[(0, ADD_8), (0, AT_BASE)], "finished 2", ONCE),
+    (&[(0, ADD_8), (0, 0x2900_0000)], "finished 2", ONCE),
+    (&[(0, ADD_8), (0, 0x3400_0000)], "finished 2", ONCE),
+    // 7 is one too few; 7 and 1 are enough.
+    (&[(0, 0x3801_C000), (0, AT_BASE)], "refused 7 at 1734", ""),
+    (
+        &[(0, 0x3801_C000), (0, 0x3800_4000), (0, AT_BASE)],
+        "finished 3",
+        ONCE,
+    ),
+    // 16 lead to row 8, which is unset; and 8 with a dst of 1016 to row 1016 again.
+    (
+        &[(0, ADD_8), (0, ADD_8), (0, AT_BASE)],
+        "refused 8 at 1742",
+        "",
+    ),
+    (&[(0, ADD_8), (0, 0x2600_03F8)], "refused 7 at 1734", ""),
+    // The counter of its own thread counts, whatever another thread issues in between.
+    (&[(0, ADD_8), (2, AT_BASE)], "refused 7 at 1734", ""),
+    (&[(2, ADD_8), (2, AT_BASE)], "finished 2", ONCE),
+    (
+        &[(2, ADD_8), (0, 0x2100_0000), (2, AT_BASE)],
+        "finished 3",
+        ONCE,
+    ),
+    // SETRWC: Dst to 8; SrcA alone to 8, though d is 8 as well; Dst back to 0.
+    (&[(0, 0x3702_0004), (0, AT_BASE)], "finished 2", ONCE),
+    (&[(0, 0x3702_0201), (0, AT_BASE)], "refused 7 at 1734", ""),
+    (
+        &[(0, ADD_8), (0, 0x3700_0004), (0, AT_BASE)],
+        "refused 7 at 1742",
+        "",
+    ),
+    // Slot 1 of a CONV3S1, and of a SHIFTXB in a row of zeros.
+    (&[(0, 0x2200_4000), (0, AT_BASE)], "finished 2", ONCE),
+    (&[(0, 0x1800_4001), (0, AT_BASE)], "finished 2", ONCE),
+    // Slot 1 of an MVMUL that a dst of 8 leads to row 0 itself; without it the slot comes too late.
+    (&[(0, 0x2600_4008), (0, AT_BASE)], "finished 2", TWICE),
+    (&[(0, 0x2600_4000), (0, AT_BASE)], "refused 7 at 1726", ""),
+];
+
+/// A SETRWC moves both matrix pointers to the second banks, and then the first ones are handed
+/// over. Only where another SETRWC moves the pointers back does the multiply have its banks.
+pub fn by_pointers(back: bool) -> Vec<Written> {
+    let move_on = issue(SETRWC.word(&[(Name::Clear, 3)]));
+    let mut job = vec![settings(TF32, FP32), move_on.clone()];
+    job.extend(powers(&[0, 1]));
+    job.push(zero(0, EIGHT));
+    job.extend(back.then_some(move_on));
+    job.extend([mvmul(0), rows_out(0, 1)]);
+    job
+}
+
+/// The numbers of order 8 as jobs.
+pub fn left_jobs() -> Vec<Vec<u8>> {
+    let mut jobs = REACHED.map(|(words, ..)| by_counter(words)).to_vec();
+    jobs.extend([
+        by_counter_in_halves(&[(0, AT_BASE)]),
+        by_counter_in_halves(&[(0, ADD_8), (0, AT_BASE)]),
+        by_pointers(false),
+        by_pointers(true),
+    ]);
+    jobs.iter().map(|job| bytes(job)).collect()
+}

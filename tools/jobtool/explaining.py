@@ -2,7 +2,7 @@
 
 from .fields import ISSUE
 from .instructions import OPCODE_LOW, instruction_of
-from .refusals import BY_NUMBER, UNNAMED
+from .refusals import UNNAMED, refusal_with
 from .rules import find_fault
 from .wrong import Wrong, span
 
@@ -28,9 +28,7 @@ def arrow_lines(data, pieces, answer):
 
 def refusal_of(answer):
     """The refusal of an answer, whose number and bit must be such as a refusal gives."""
-    refusal = BY_NUMBER.get(answer.number)
-    if refusal is None:
-        raise Wrong(f"{answer.number} is no number that a refusal gives; they are {span(BY_NUMBER)}")
+    refusal = refusal_with(answer.number)
     if answer.bit is not None and not refusal.has_bit:
         raise Wrong(f"a refusal {answer.number} has no bit; only a refusal {UNNAMED.number} has one")
     if answer.bit is not None and answer.bit >= OPCODE_LOW:

@@ -95,7 +95,7 @@ def listing(data, answer=None):
     pieces, lines, arrows = fields.split(data), [], {}
     if answer:
         arrow = arrow_lines(data, pieces, answer)
-        if len(data) > JOB_LIMIT or not BY_NUMBER[answer.number].at_field:
+        if len(data) > JOB_LIMIT or not BY_NUMBER[answer.number].judged:
             lines = arrow
         else:
             arrows[answer.place] = arrow

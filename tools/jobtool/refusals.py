@@ -5,18 +5,17 @@ from typing import NamedTuple
 
 from .instructions import HOW_MANY
 from .layout import BF16_WHEN, DST_32_ROWS
-from .wrong import Wrong
+from .wrong import Wrong, span
 
 
 class Refusal(NamedTuple):
     """A number, what it means and what to do about it. `judged` says that the job alone decides, so
-    that this tool can too; `at_field` that the place is a field's; `has_bit` that a bit stands behind it."""
+    that this tool can too, and that the place is a field's; `has_bit` that a bit stands behind it."""
 
     number: int
     meaning: str
     remedy: str
     judged: bool = True
-    at_field: bool = True
     has_bit: bool = False
 
 
@@ -52,16 +51,16 @@ LENT = Refusal(
     "a lent slice of the state has another length",
     "mend the calling program; the job has no part in this",
     judged=False,
-    at_field=False,
 )
-LATE = Refusal(
-    10,
-    "an instruction refuses after the pre-check passed",
-    "cannot happen to a job that passes the pre-check: report it",
-    judged=False,
-)
-TABLE = (SHAPE, OPCODE, UNNAMED, MODE, SETTINGS, OWNER, DST_ROW, UNSET, LENT, LATE)
+TABLE = (SHAPE, OPCODE, UNNAMED, MODE, SETTINGS, OWNER, DST_ROW, UNSET, LENT)
 BY_NUMBER = {refusal.number: refusal for refusal in TABLE}
+
+
+def refusal_with(number):
+    """The refusal with a number, or the message that there is none."""
+    if number in BY_NUMBER:
+        return BY_NUMBER[number]
+    raise Wrong(f"{number} is no number that a refusal gives; they are {span(BY_NUMBER)}")
 
 
 class Answer(NamedTuple):

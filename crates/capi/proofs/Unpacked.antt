@@ -8,7 +8,7 @@ use Prim.Native.Nat.{ℕ, _+_, _*_, _/_, _%_, _<_, _≤_}
 use native.Mathlib.Omega.{arith}
 use borrow.Author.Tests.{lt-ltb, le-ltb, ne-eqb}
 use Rattle.cells.specs.Layout.{jobBytes}
-use Rattle.word.proofs.Numbers.{number-byte}
+use Rattle.word.proofs.Numbers.{tabled, tabled-byte}
 use Rattle.word.specs.Refusal.{numberOf, bitOf, bitNumber, Answer, passed, finished, refused}
 use Rattle.word.specs.declared.Refusal.{Refusal}
 use Rattle.control.specs.declared.Control.{Control}
@@ -28,6 +28,14 @@ use Rattle.capi.specs.Packed.{refusalBit, numberUnit, bitUnit, packed, u
 
 -- ---- one number
 
+-- the number of a refusal, whatever its place and bit
+pub number-unpacks : (number place : ℕ) (bit : Option ℕ) → number < 256 → unpackedNumber (packed (refused number place bit)) ≡ number
+number-unpacks number place bit i =
+    let b = bitNumber bit in
+    let x = refusalBit + b * bitUnit + number * numberUnit + place % numberUnit in
+    let q : x / numberUnit ≡ refusalBit / numberUnit + b * (bitUnit / numberUnit) + number = omega arith in
+    rw q (omega arith)
+
 -- a refusal, and that it is taken for one
 refusal-unpacks : (number place : ℕ) (bit : Option ℕ) → number < 256 → place ≤ jobBytes → SmallBit number bit
     → (unpackedRefusal (packed (refused number place bit)) ≡ refused number place bit) × (refusalBit ≤ packed (refused number place bit))
@@ -35,8 +43,7 @@ refusal-unpacks number place bit i j k =
     let b = bitNumber bit in
     let x = refusalBit + b * bitUnit + number * numberUnit + place % numberUnit in
     let p : x % numberUnit ≡ place = omega arith in
-    let q : x / numberUnit ≡ refusalBit / numberUnit + b * (bitUnit / numberUnit) + number = omega arith in
-    let n : unpackedNumber x ≡ number = rw q (omega arith) in
+    let n : unpackedNumber x ≡ number = number-unpacks number place bit i in
     let d : x / bitUnit ≡ refusalBit / bitUnit + b = omega arith in
     let m : unpackedBit x ≡ b = rw d (omega (arith, k .1)) in
     (rw (p, n, m) (λ h. refused number place (k .0 h)), omega arith)
@@ -51,7 +58,7 @@ module _ (counted : ℕ → Answer) where
   refused-unpacks : (number place : ℕ) (bit : Option ℕ) → Small (refused number place bit)
       → unpackedCount counted (packed (refused number place bit)) ≡ refused number place bit
   refused-unpacks number place bit s =
-      let u = refusal-unpacks number place bit (s .0) (s .1) (s .2) in
+      let u = refusal-unpacks number place bit (tabled-byte number (s .0)) (s .1) (s .2) in
       rw (le-ltb (packed (refused number place bit)) refusalBit (u .1)) (u .0)
 
 -- ---- nothing is lost
@@ -79,5 +86,5 @@ step-unpacked c t w s = go (steppedOf c t w s .verdict) (step-small c t w s)
     go : (v : Verdict) → ((r : Refusal) → v ≡ verdict.Refused r → SmallBit (numberOf r) (bitOf r)) → unpackedStep (packed (verdictAnswer v)) ≡ verdictAnswer v
     go verdict.Done h = refl
     go (verdict.Refused r) h =
-        let u = refusal-unpacks (numberOf r) 0 (bitOf r) (number-byte r) (omega arith) (h r refl) in
+        let u = refusal-unpacks (numberOf r) 0 (bitOf r) (tabled-byte (numberOf r) (tabled r)) (omega arith) (h r refl) in
         rw (ne-eqb (packed (refused (numberOf r) 0 (bitOf r))) 0 (λ e. omega (arith, u .1))) (u .0)

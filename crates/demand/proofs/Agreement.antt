@@ -103,13 +103,6 @@ pub record Agree (w : Width) (m : Marks) (d e : State) : Type 0 where
   pub dst : Same w byRow 8192 (m .dst) (d .dst) (e .dst)
   pub registers : Same Bits32 alone 192 (m .registers) (d .registers) (e .registers)
 
-turned : {w : Width} {row : ℕ → ℕ} {n : ℕ} {m : List Bool} {d e : List ℕ} → Same w row n m d e → Same w row n m e d
-turned s = record { left = s .right; right = s .left; same = λ i t. sym (s .same i t) }
-
--- the other way round
-pub swap : (w : Width) (m : Marks) (d e : State) → Agree w m d e → Agree w m e d
-swap w m d e s = record { srca = turned (s .srca); srcb = turned (s .srcb); dst = turned (s .dst); registers = turned (s .registers) }
-
 -- all that an instruction reads is set
 record Read (m : Marks) (r : Reads) : Type 0 where
   a : allSet (m .srca) (r .a) ≡ true

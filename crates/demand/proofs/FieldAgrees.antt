@@ -1,33 +1,28 @@
--- A field that breaks no rule: the single step does not refuse it, and it keeps two states in agreement. Assumes nothing.
-use mathlib.Core.Path.{_≡_, refl, sym, _∙_}
+-- A field that breaks no rule keeps two states in agreement. Assumes nothing.
+use mathlib.Core.Path.{_≡_, refl}
 use mathlib.Core.Bool.{true}
 use mathlib.Core.List.{List, [], _∷_}
-use Prim.Native.Nat.{ℕ}
-use borrow.Author.Tests.{not-false}
-use lib.Dec.{ltb}
+use Prim.Native.Nat.{ℕ, _<_}
+use borrow.Author.Tests.{not-false, ltb-true}
 use Rattle.cells.specs.Layout.{threadCount, srcNumbers, dstNumbers, registerCount, oneRegister}
 use Rattle.cells.specs.declared.Width.{Width}
 use Rattle.cells.specs.declared.Width.the-variants.{Bits32}
 use Rattle.cells.specs.Cells.{inSpan}
 use Rattle.cells.proofs.Same.{written as overwritten, numbers-over}
 use Rattle.cells.specs.declared.layout.File.the-variants.{A, B}
-use Rattle.word.specs.Word.{wordOperands, readWord}
-use Rattle.word.specs.declared.Read.{Read}
-use Rattle.word.specs.declared.Read.the-variants as read
 use Rattle.word.specs.declared.Refusal.the-variants.{UnsetRead}
-use Rattle.word.proofs.ReadWords.{was-read}
 use Rattle.control.specs.declared.Control.{Control}
 use Rattle.control.specs.Range.{inRange}
 use Rattle.control.specs.Record.{widthOf}
-use Rattle.rules.specs.Rules.{_when_, rules, lowest, judgement}
-use Rattle.rules.specs.After.{actingOf, acting}
+use Rattle.rules.specs.Rules.{_when_, rules, lowest}
+use Rattle.rules.specs.After.{acting}
 use Rattle.rules.specs.Access.{readsOf, wordSets, wordUnsets}
 use Rattle.rules.specs.declared.Verdict.the-variants.{Done}
-use Rattle.rules.proofs.Reading.{judged-refused}
-use Rattle.cells.specs.State.{State, sized}
+use Rattle.rules.proofs.Reading.{parts-done, judged-acts}
+use Rattle.cells.specs.State.{State}
 use Rattle.step.specs.Effect.{effectOf, stateAfter}
-use Rattle.step.specs.Step.{verdictOf, stateOf}
-use Rattle.cells.proofs.Sizes.{sized-of}
+use Rattle.step.specs.Step.{stateOf}
+use Rattle.cells.proofs.Sizes.{Sizes}
 use Rattle.job.specs.Fields.{payloadAt}
 use Rattle.job.proofs.Says.{WriteSays, Says}
 use Rattle.job.specs.declared.Write.{Write}
@@ -39,64 +34,39 @@ use Rattle.walk.specs.FieldRecord.{loadedRows}
 use Rattle.precheck.specs.Judging.{unsetRead, fieldRules}
 use Rattle.precheck.specs.Marking.{writeMarks, fieldMarks}
 use Rattle.job.specs.Loading.{loaded}
-use Rattle.run.specs.Perform.{written, performed, stepVerdict}
-use Rattle.demand.proofs.Rules.{never, parts-done, alone-done}
+use Rattle.precheck.proofs.Checking.{issue-judged}
+use Rattle.run.specs.Perform.{written, performed}
+use Rattle.run.proofs.Running.{step-done}
+use Rattle.demand.proofs.Rules.{alone-done}
 use Rattle.demand.specs.Breaks.{isIssue}
 use Rattle.demand.proofs.Agreement.{Agree, byRow, alone, word-agrees}
 
 -- ---- an instruction
 
--- a word that breaks no rule was read
-acts : (c : Control) (t w : ℕ) → lowest (rules c t w) ≡ Done → acting w ≡ wordOperands w
-unfolding acting judgement
-acts c t w h = go (readWord w) refl
-  where
-    go : (r : Read) → readWord w ≡ r → actingOf r ≡ wordOperands w
-    go (read.Operands f) e = sym (was-read w f e .operands)
-    go (read.Refused r) e = absurd (never (sym (judged-refused c t w r e) ∙ h))
-
 module _ (c : Control) (m : Marks) (t w : ℕ) (h : lowest (fieldRules c m (kind.Issue t w)) ≡ Done) where
-  -- it breaks none of the step's rules, and all that it reads is set
-  judged-done : lowest (rules c t w) ≡ Done
-  unfolding fieldRules
-  judged-done = parts-done (rules c t w) ((UnsetRead when unsetRead c m t w) ∷ []) h .0
-
+  -- all that it reads is set
   reads-set : readsSet m (readsOf c t (acting w)) ≡ true
   unfolding fieldRules
   reads-set =
-      rw (acts c t w judged-done)
+      rw (judged-acts c t w (issue-judged c m t w h))
       (not-false _ (alone-done UnsetRead (unsetRead c m t w) (parts-done (rules c t w) ((UnsetRead when unsetRead c m t w) ∷ []) h .1)))
 
-  module _ (range : inRange c ≡ true) (thread : ltb t threadCount ≡ true) where
-    verdict-done : (s : State) → sized s ≡ true → verdictOf c t w s ≡ Done
-    unfolding verdictOf judgement
-    verdict-done s size = simp (size, range, thread) judged-done
-
-    state-is : (s : State) → sized s ≡ true → stateOf c t w s ≡ effectOf c t (acting w) s
-    unfolding stateOf stateAfter
-    state-is s size = rw (verdict-done s size)
+  -- and its single step is done
+  state-is : inRange c ≡ true → t < threadCount → (s : State) → Sizes s → stateOf c t w s ≡ effectOf c t (acting w) s
+  unfolding stateOf stateAfter
+  state-is range thread s size = rw (step-done c m range s size t w thread h)
 
 -- ---- any field
 
-left-sized : (w : Width) (m : Marks) (d e : State) → Agree w m d e → sized d ≡ true
-left-sized w m d e s = sized-of d (record { srca = s .srca .left; srcb = s .srcb .left; dst = s .dst .left; registers = s .registers .left })
+pub left-sizes : {w : Width} {m : Marks} {d e : State} → Agree w m d e → Sizes d
+left-sizes s = record { srca = s .srca .left; srcb = s .srcb .left; dst = s .dst .left; registers = s .registers .left }
 
-right-sized : (w : Width) (m : Marks) (d e : State) → Agree w m d e → sized e ≡ true
-right-sized w m d e s = sized-of e (record { srca = s .srca .right; srcb = s .srcb .right; dst = s .dst .right; registers = s .registers .right })
+pub right-sizes : {w : Width} {m : Marks} {d e : State} → Agree w m d e → Sizes e
+right-sizes s = record { srca = s .srca .right; srcb = s .srcb .right; dst = s .dst .right; registers = s .registers .right }
 
 -- a field with this tag and payload, in a job whose Dst rows have width w
 module _ (c : Control) (m : Marks) (range : inRange c ≡ true) (w : Width) (d e : State) (s : Agree w m d e) (tag : ℕ) (p : List ℕ) where
-  -- the step does not refuse it
-  pub field-done : (k : Kind) → Says w tag p k → lowest (fieldRules c m k) ≡ Done → stepVerdict c k d ≡ Done
-  unfolding stepVerdict
-  field-done kind.Settings i h = refl
-  field-done (kind.Issue t x) i h = verdict-done c m t x h range (i .0) d (left-sized w m d e s)
-  field-done (kind.HandOver file) i h = refl
-  field-done (kind.Writes x) i h = refl
-  field-done (kind.Prints o) i h = refl
-  field-done (kind.Wrong x) i h = refl
-
-  -- and the states agree after it, where the record has the width too
+  -- the states agree after it, where the record has the width too
   write-agrees : (job : List ℕ) (place : ℕ) (x : Write) → WriteSays w tag p x → Agree w (writeMarks c m x) (written (payloadAt job place) c x d) (written (payloadAt job place) c x e)
   unfolding written loaded markSrc markDst markRegister
   write-agrees job place (LoadSrc A rows) i =
@@ -120,7 +90,8 @@ module _ (c : Control) (m : Marks) (range : inRange c ≡ true) (w : Width) (d e
   unfolding fieldMarks performed wordSets wordUnsets
   field-agrees job place kind.Settings i q h = s
   field-agrees job place (kind.Issue t x) i q h =
-      rw (state-is c m t x h range (i .0) d (left-sized w m d e s), state-is c m t x h range (i .0) e (right-sized w m d e s))
+      let l = ltb-true t threadCount (i .0) in
+      rw (state-is c m t x h range l d (left-sizes s), state-is c m t x h range l e (right-sizes s))
       (word-agrees w m d e s c t (acting x) (q refl) (reads-set c m t x h))
   field-agrees job place (kind.HandOver file) i q h = s
   field-agrees job place (kind.Writes x) i q h = write-agrees job place x i

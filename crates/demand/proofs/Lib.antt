@@ -1,4 +1,4 @@
--- The proofs of demand 3, of demand 1, of the lowest offending bit, of what the two Dst modes leave and of the last SrcA row.
+-- The proofs of demand 3, of demand 1, of the lowest offending bit, that 10 is no number, of what the two Dst modes leave and of the last SrcA row.
 mod Ranges
 mod Tags
 mod Cutting
@@ -18,3 +18,4 @@ pub mod Modes
 pub mod LastRow
 mod Tagged
 pub mod Demand
+pub mod Numbers

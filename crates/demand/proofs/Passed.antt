@@ -1,8 +1,8 @@
 -- A walk of the pre-check that passes: its count, and what the job run then does over two states that agree. Assumes nothing.
-use mathlib.Core.Path.{_≡_, refl, ap, ap₂, _∙_}
+use mathlib.Core.Path.{_≡_, refl, sym, ap, ap₂, subst, _∙_}
 use mathlib.Core.Bool.{true, cond}
 use mathlib.Core.List.{List, [], _∷_, _++_}
-use mathlib.Core.Option.{Option, none, some}
+use mathlib.Core.Option.{none, some}
 use Prim.Native.Nat.{ℕ, zero, suc, _+_}
 use native.Mathlib.Omega.{arith}
 use lib.ListN.{getD}
@@ -10,7 +10,6 @@ use Rattle.cells.specs.declared.Width.{Width}
 use Rattle.control.specs.declared.Control.{Control}
 use Rattle.control.specs.Range.{inRange}
 use Rattle.rules.specs.Rules.{lowest}
-use Rattle.rules.specs.declared.Verdict.{Verdict}
 use Rattle.rules.specs.declared.Verdict.the-variants as verdict
 use Rattle.cells.specs.State.{State}
 use Rattle.cells.proofs.Sizes.{Sizes}
@@ -18,9 +17,9 @@ use Rattle.job.specs.Fields.{payloadAt, jobWidth, EachField}
 use Rattle.job.specs.declared.Kind.{Kind}
 use Rattle.job.specs.declared.Kind.the-variants as kind
 use Rattle.job.specs.declared.Field.{Field}
+use Rattle.job.specs.Range.{InRange}
 use Rattle.job.proofs.Shaped.{Sound}
 use Rattle.precheck.specs.Marks.{Marks}
-use Rattle.precheck.specs.declared.Checked.{Checked}
 use Rattle.precheck.specs.declared.Checked.the-variants.{Passed}
 use Rattle.precheck.specs.Judging.{fieldRules}
 use Rattle.walk.specs.FieldRecord.{fieldControl}
@@ -28,19 +27,19 @@ use Rattle.precheck.specs.Marking.{fieldMarks}
 use Rattle.walk.specs.FieldRecord.{issueOf}
 use Rattle.precheck.specs.Check.{checkFrom}
 use Rattle.precheck.proofs.Checking.{check-passed}
-use Rattle.run.specs.Perform.{performed, controlOn, stepVerdict}
+use Rattle.run.specs.Perform.{performed, controlOn}
 use Rattle.run.proofs.Performs.{performed-sizes}
 use Rattle.run.specs.Run.{Ran, execute}
-use Rattle.run.proofs.Running.{done-control, execute-next, execute-done}
+use Rattle.run.proofs.Running.{step-done, control-same, execute-next}
 use Rattle.run.specs.declared.Outcome.the-variants as outcome
 use Rattle.lines.specs.Lines.{linesFrom}
 use Rattle.demand.specs.Breaks.{isIssue, issueFields}
-use Rattle.demand.specs.Meetings.{Meeting, meetingAt, Goes, leaves}
+use Rattle.demand.specs.Meetings.{Meeting, meetingAt, Goes, leaves, StepsOn, doneOf, stepsDone}
 use Rattle.demand.proofs.Rules.{none-broken}
 use Rattle.demand.proofs.MarksStay.{Stays, stays, stays-on, marks-stay}
 use Rattle.walk.proofs.RecordKept.{control-kept}
-use Rattle.demand.proofs.Agreement.{Agree, swap}
-use Rattle.demand.proofs.FieldAgrees.{field-done, field-agrees}
+use Rattle.demand.proofs.Agreement.{Agree}
+use Rattle.demand.proofs.FieldAgrees.{left-sizes, right-sizes, field-agrees}
 use Rattle.demand.proofs.Lines.{lines-same}
 use Rattle.demand.proofs.Widths.{Wide}
 
@@ -72,6 +71,11 @@ pub record Ended (w : Width) (fs : List Field) (m : Marks) (n : ℕ) (x y : Ran)
   pub agree : Agree w marks (x .state) (y .state)
 
 module _ (job : List ℕ) where
+  -- a field that breaks no rule hands on the record that the pre-check goes by
+  execute-on : (f : Field) (fs : List Field) (c : Control) (m : Marks) (s : State) (n : ℕ) → inRange c ≡ true → Sizes s → InRange (f .kind) → lowest (fieldRules c m (f .kind)) ≡ verdict.Done
+      → execute job (f ∷ fs) c s n ≡ execute job fs (fieldControl job c (f .place) (f .kind)) (performed job c (f .place) (f .kind) s) (n + issueOf (f .kind))
+  execute-on f fs c m s n r z i h = rw (← control-same c m r s z job (f .place) (f .kind) i h) (execute-next job f fs c s n)
+
   pub ended : (fs : List Field) (c : Control) (m : Marks) (d e : State) (n q : ℕ) → EachField (Sound job) fs → Wide job c fs → inRange c ≡ true
       → checkFrom job fs c m n ≡ Passed q → Agree (jobWidth job) m d e → Ended (jobWidth job) fs m n (execute job fs c d n) (execute job fs c e n)
   unfolding execute issueFields linesFrom
@@ -86,7 +90,7 @@ module _ (job : List ℕ) where
       ended fs (fieldControl job c (f .place) k) (fieldMarks c m k) (performed job c (f .place) k d) (performed job c (f .place) k e) (n + issueOf k) q (w .1) (x .1)
       (control-kept job c f r (w .0)) (y .1) (field-agrees c m r v d e s tag p job (f .place) k (w .0 .says) (x .0) (y .0)) in
       let st = stays-on m (fieldMarks c m k) (i .marks) (marks-stay c m k) (i .stay) in
-      rw (execute-done job f fs c d n (field-done c m r v d e s tag p k (w .0 .says) (y .0)), execute-done job f fs c e n (field-done c m r v e d (swap v m d e s) tag p k (w .0 .says) (y .0)))
+      rw (execute-on f fs c m d n r (left-sizes s) (w .0 .range) (y .0), execute-on f fs c m e n r (right-sizes s) (w .0 .range) (y .0))
       (record {
         finished = i .finished ∙ ap outcome.Finished (count-one k n (issueFields fs));
         lines = ap₂ _++_ (lines-same v tag p c m (i .marks) k _ _ (w .0 .says) (y .0) st (i .agree)) (i .lines);
@@ -97,24 +101,13 @@ module _ (job : List ℕ) where
 
   -- ---- no field is refused
 
-  -- a state agrees with itself
-  self : (w : Width) (m : Marks) (s : State) → Sizes s → Agree w m s s
-  self w m s z =
-      record {
-        srca = record { left = z .srca; right = z .srca; same = λ i t. refl };
-        srcb = record { left = z .srcb; right = z .srcb; same = λ i t. refl };
-        dst = record { left = z .dst; right = z .dst; same = λ i t. refl };
-        registers = record { left = z .registers; right = z .registers; same = λ i t. refl };
-      }
-
   -- a field that breaks no rule
-  goes-on : (f : Field) (c : Control) (m : Marks) (s : State) → lowest (fieldRules c m (f .kind)) ≡ verdict.Done → stepVerdict c (f .kind) s ≡ verdict.Done
+  goes-on : (f : Field) (c : Control) (m : Marks) (s : State) → inRange c ≡ true → Sizes s → InRange (f .kind) → lowest (fieldRules c m (f .kind)) ≡ verdict.Done
       → Goes (record { field = f; control = c; marks = m; state = s })
-  unfolding stepVerdict
-  goes-on f c m s h v =
+  goes-on f c m s r z i h =
       record {
         unbroken = none-broken (fieldRules c m (f .kind)) h;
-        done = λ t w e. rw e at v;
+        done = λ t w e. step-done c m r s z t w (subst InRange e i) (ap (λ (k : Kind). lowest (fieldRules c m k)) (sym e) ∙ h);
       }
 
   pub all-go : (fs : List Field) (c : Control) (m : Marks) (s : State) (n q : ℕ) → EachField (Sound job) fs → inRange c ≡ true → checkFrom job fs c m n ≡ Passed q → Sizes s
@@ -123,9 +116,8 @@ module _ (job : List ℕ) where
   all-go [] c m s n q w r h z k x e = absurd (let y : _≡_ {A = ℕ} 0 1 = cc in omega arith)
   all-go (f ∷ fs) c m s n q w r h z k x e =
       let y = check-passed job f fs c m n q h in
-      let v = field-done c m r (jobWidth job) s s (self (jobWidth job) m s z) (getD job (f .place) 0) (payloadAt job (f .place)) (f .kind) (w .0 .says) (y .0) in
-      go k (goes-on f c m s (y .0) v)
-      (λ k. rw (← done-control job c (f .place) (f .kind) s v) at
+      go k (goes-on f c m s r z (w .0 .range) (y .0))
+      (λ k. rw (← control-same c m r s z job (f .place) (f .kind) (w .0 .range) (y .0)) at
       (all-go fs (fieldControl job c (f .place) (f .kind)) (fieldMarks c m (f .kind)) (performed job c (f .place) (f .kind) s) (n + issueOf (f .kind)) q (w .1)
       (control-kept job c f r (w .0)) (y .1) (performed-sizes job c (f .place) (f .kind) s z) k x))
       e
@@ -135,6 +127,25 @@ module _ (job : List ℕ) where
           → meetingAt job (f ∷ fs) c m s k ≡ some x → Goes x
       go zero here later e = let y : record { field = f; control = c; marks = m; state = s } ≡ x = cc in rw (← y) here
       go (suc k) here later e = later k e
+
+  -- so each instruction counts as one that is done
+  done-one : (c : Control) (m : Marks) (s : State) → inRange c ≡ true → Sizes s → (k : Kind) → InRange k → lowest (fieldRules c m k) ≡ verdict.Done → doneOf c k s ≡ issueOf k
+  done-one c m s r z kind.Settings i h = refl
+  done-one c m s r z (kind.Issue t w) i h = rw (step-done c m r s z t w i h)
+  done-one c m s r z (kind.HandOver file) i h = refl
+  done-one c m s r z (kind.Writes x) i h = refl
+  done-one c m s r z (kind.Prints o) i h = refl
+  done-one c m s r z (kind.Wrong x) i h = refl
+
+  pub all-done : (fs : List Field) (c : Control) (m : Marks) (s : State) (n q : ℕ) → EachField (Sound job) fs → inRange c ≡ true → checkFrom job fs c m n ≡ Passed q → Sizes s
+      → stepsDone job fs c s ≡ issueFields fs
+  unfolding stepsDone issueFields
+  all-done [] c m s n q w r h z = refl
+  all-done (f ∷ fs) c m s n q w r h z =
+      let k = f .kind in
+      let y = check-passed job f fs c m n q h in
+      let later = all-done fs (fieldControl job c (f .place) k) (fieldMarks c m k) (performed job c (f .place) k s) (n + issueOf k) q (w .1) (control-kept job c f r (w .0)) (y .1) (performed-sizes job c (f .place) k s z) in
+      rw (control-same c m r s z job (f .place) k (w .0 .range) (y .0), done-one c m s r z k (w .0 .range) (y .0), later) (omega (arith, count-one k 0 (issueFields fs)))
 
   -- where no field is left, the run leaves what it has
   none-left : (fs : List Field) (b c : Control) (m : Marks) (s : State) (n : ℕ) → meetingAt job fs b m s zero ≡ none → execute job fs c s n .state ≡ s
@@ -149,10 +160,9 @@ module _ (job : List ℕ) where
   all-end [] c m s n q w r h z k x e o = absurd (let y : _≡_ {A = ℕ} 0 1 = cc in omega arith)
   all-end (f ∷ fs) c m s n q w r h z k x e o =
       let y = check-passed job f fs c m n q h in
-      let v = field-done c m r (jobWidth job) s s (self (jobWidth job) m s z) (getD job (f .place) 0) (payloadAt job (f .place)) (f .kind) (w .0 .says) (y .0) in
-      ap (λ (a : Ran). a .state) (execute-next job f fs c s n v)
+      ap (λ (a : Ran). a .state) (execute-next job f fs c s n)
       ∙ go k
-      (λ k. rw (← done-control job c (f .place) (f .kind) s v) at
+      (λ k. rw (← control-same c m r s z job (f .place) (f .kind) (w .0 .range) (y .0)) at
       (all-end fs (fieldControl job c (f .place) (f .kind)) (fieldMarks c m (f .kind)) (performed job c (f .place) (f .kind) s) (n + issueOf (f .kind)) q (w .1)
       (control-kept job c f r (w .0)) (y .1) (performed-sizes job c (f .place) (f .kind) s z) k x))
       e o
@@ -167,3 +177,31 @@ module _ (job : List ℕ) where
           let y : record { field = f; control = c; marks = m; state = s } ≡ x = cc in
           none-left fs _ _ (fieldMarks c m (f .kind)) (performed job c (f .place) (f .kind) s) _ o ∙ ap (leaves job) y
       go (suc k) later e o = later k e o
+
+  -- ---- each instruction hands on what its single step gives back
+
+  first-met : (fs : List Field) (c : Control) (m : Marks) (s : State) (y : Meeting) → meetingAt job fs c m s zero ≡ some y → (y .control ≡ c) × (y .state ≡ s)
+  unfolding meetingAt
+  first-met [] c m s y e = absurd (let z : _≡_ {A = ℕ} 0 1 = cc in omega arith)
+  first-met (f ∷ fs) c m s y e = let q : record { field = f; control = c; marks = m; state = s } ≡ y = cc in rw (← q) (refl, refl)
+
+  pub steps-on : (fs : List Field) (c : Control) (m : Marks) (s : State) (k : ℕ) (x y : Meeting)
+      → meetingAt job fs c m s k ≡ some x → meetingAt job fs c m s (suc k) ≡ some y → StepsOn x y
+  unfolding meetingAt controlOn performed
+  steps-on [] c m s k x y e g = absurd (let z : _≡_ {A = ℕ} 0 1 = cc in omega arith)
+  steps-on (f ∷ fs) c m s k x y e g =
+      go k (steps-on fs (controlOn job c (f .place) (f .kind) s) (fieldMarks c m (f .kind)) (performed job c (f .place) (f .kind) s)) e g
+    where
+      go : (k : ℕ)
+          → ((k : ℕ) (x y : Meeting) → meetingAt job fs (controlOn job c (f .place) (f .kind) s) (fieldMarks c m (f .kind)) (performed job c (f .place) (f .kind) s) k ≡ some x
+          → meetingAt job fs (controlOn job c (f .place) (f .kind) s) (fieldMarks c m (f .kind)) (performed job c (f .place) (f .kind) s) (suc k) ≡ some y → StepsOn x y)
+          → meetingAt job (f ∷ fs) c m s k ≡ some x → meetingAt job (f ∷ fs) c m s (suc k) ≡ some y → StepsOn x y
+      go zero later e g =
+          let q : record { field = f; control = c; marks = m; state = s } ≡ x = cc in
+          let n = first-met fs _ _ _ y g in
+          rw (← q)
+          (record {
+            control = λ t w h. n .0 ∙ ap (λ (z : Kind). controlOn job c (f .place) z s) h;
+            state = λ t w h. n .1 ∙ ap (λ (z : Kind). performed job c (f .place) z s) h;
+          })
+      go (suc k) later e g = later k x y e g

@@ -1,7 +1,7 @@
 -- The first broken rule of a list: what it says of each rule. Assumes nothing.
 use mathlib.Core.Path.{_≡_, refl, sym, ap, _∙_}
 use mathlib.Core.Bool.{Bool, true, false, cond, _&&_, and-false, false≢true}
-use mathlib.Core.List.{List, [], _∷_, _++_}
+use mathlib.Core.List.{List, [], _∷_}
 use Prim.Native.Nat.{ℕ, suc, _≤_, _<_}
 use native.Mathlib.Omega.{arith}
 use borrow.Author.Tests.{leb-true, ne-eqb, eq-eqb}
@@ -10,10 +10,11 @@ use Rattle.cells.proofs.Cells.{split, both}
 use Rattle.cells.specs.Tests.{oneOf}
 use Rattle.word.specs.Refusal.{numberOf, rankOf}
 use Rattle.word.specs.declared.Refusal.{Refusal}
-use Rattle.word.specs.declared.Refusal.the-variants.{StateLength, Shape, UnknownOpcode, UnnamedBit, UndefinedMode, UnmodelledSettings, BankOwner, DstRow, UnsetRead, StepRefused}
+use Rattle.word.specs.declared.Refusal.the-variants.{StateLength, Shape, UnknownOpcode, UnnamedBit, UndefinedMode, UnmodelledSettings, BankOwner, DstRow, UnsetRead}
 use Rattle.control.specs.declared.Control.{Control}
 use Rattle.rules.specs.Rules.{Judged, _when_, rules, lowest, operandRules as wordRules}
 use Rattle.rules.specs.declared.Verdict.the-variants.{Done, Refused}
+use Rattle.rules.proofs.Reading.{never}
 use Rattle.job.specs.declared.Write.{Write}
 use Rattle.job.specs.declared.Write.the-variants.{LoadSrc, LoadDst, LoadRegister, ZeroRows}
 use Rattle.job.specs.declared.Output.{Output}
@@ -25,9 +26,6 @@ use Rattle.precheck.specs.Judging.{writeRules, outputRules, fieldRules}
 use Rattle.demand.specs.Breaks.{brokenRule}
 use Rattle.demand.specs.Demand.{fieldNumbers, Ranks}
 
-pub never : {x : Refusal} → Refused x ≡ Done → ⊥
-never e = let z : _≡_ {A = ℕ} 0 1 = cc in omega arith
-
 -- ---- no rule is broken
 
 pub none-broken : (bs : List Judged) → lowest bs ≡ Done → (q : Refusal) → brokenRule q bs ≡ false
@@ -37,15 +35,7 @@ none-broken (b ∷ bs) e q =
     split (b .broken) (λ h. absurd (never (rw h at e)))
     (λ h. rw (h, and-false (eqb (numberOf (b .rule)) (numberOf q))) (none-broken bs (rw h at e) q))
 
--- then none of either part is
-pub parts-done : (xs bs : List Judged) → lowest (xs ++ bs) ≡ Done → (lowest xs ≡ Done) × (lowest bs ≡ Done)
-unfolding lowest
-parts-done [] bs e = (refl, e)
-parts-done (a ∷ xs) bs e =
-    split (a .broken) (λ h. absurd (never (rw h at e)))
-    (λ h. let r = parts-done xs bs (rw h at e) in (rw h (r .0), r .1))
-
--- and a rule that stands alone does not hold
+-- then a rule that stands alone does not hold
 pub alone-done : (r : Refusal) (b : Bool) → lowest ((r when b) ∷ []) ≡ Done → b ≡ false
 unfolding lowest
 alone-done r true e = absurd (never e)
@@ -55,7 +45,7 @@ alone-done r false e = refl
 
 -- a number has one rank
 rankFrom : ℕ → ℕ
-rankFrom n = cond (eqb n 9) 0 (cond (eqb n 10) 9 n)
+rankFrom n = cond (eqb n 9) 0 n
 
 rank-from : (r : Refusal) → rankOf r ≡ rankFrom (numberOf r)
 unfolding rankFrom
@@ -68,7 +58,6 @@ rank-from UnmodelledSettings = refl
 rank-from BankOwner = refl
 rank-from DstRow = refl
 rank-from UnsetRead = refl
-rank-from StepRefused = refl
 
 same-rank : (q r : Refusal) → numberOf q ≡ numberOf r → rankOf q ≡ rankOf r
 same-rank q r e = rank-from q ∙ ap rankFrom e ∙ sym (rank-from r)
@@ -83,7 +72,6 @@ ranks UnmodelledSettings = record { rank = λ e. refl }
 ranks BankOwner = record { rank = λ e. refl }
 ranks DstRow = record { rank = λ e. refl }
 ranks UnsetRead = record { rank = λ e. refl }
-ranks StepRefused = record { rank = λ e. absurd (false≢true e) }
 
 -- the ranks rise, from k on
 unfoldable pub rising : ℕ → List Judged → Bool

@@ -4,7 +4,6 @@ use mathlib.Core.Bool.{Bool, true, false, cond, _&&_, false≢true}
 use mathlib.Core.List.{[], _∷_}
 use mathlib.Core.Logic.{⊎-elim, _≢_}
 use Prim.Native.Nat.{ℕ, _<_}
-use native.Mathlib.Omega.{arith}
 use borrow.Author.Tests.{ltb-true, lt-ltb}
 use lib.Dec.{ltb}
 use Rattle.cells.specs.Tests.{oneOf}
@@ -16,6 +15,7 @@ use Rattle.control.specs.Range.{inRange}
 use Rattle.rules.specs.Rules.{rules, operandRules, lowest, judgement}
 use Rattle.rules.specs.declared.Verdict.{Verdict}
 use Rattle.rules.specs.declared.Verdict.the-variants.{Done, Refused}
+use Rattle.rules.proofs.Reading.{never}
 use Rattle.cells.specs.Layout.{threadCount}
 use Rattle.cells.specs.State.{State, sized}
 use Rattle.cells.proofs.Cells.{split, both}
@@ -27,7 +27,7 @@ use Rattle.demand.specs.Demand.{stepNumbers, Lengths, StepDemand1}
 use Rattle.demand.specs.RecordRange.{RecordIn}
 use Rattle.demand.proofs.Ranges.{record-ok, record-in}
 use Rattle.demand.proofs.Bits.{differ, told-of, judged-three}
-use Rattle.demand.proofs.Rules.{never, none-broken, rising, Lowest, lowest-is, lowest-numbered}
+use Rattle.demand.proofs.Rules.{none-broken, rising, Lowest, lowest-is, lowest-numbered}
 
 -- the lengths, here and in the layout
 pub sizes-of : (s : State) → Lengths s → Sizes s

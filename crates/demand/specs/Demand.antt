@@ -40,7 +40,7 @@ use Rattle.run.specs.declared.Outcome.the-variants.{Finished, Refused}
 use Rattle.demand.specs.WellShaped.{WellShaped, fieldsOf, tagged, FirstWrong}
 use Rattle.demand.specs.RecordRange.{RecordIn}
 use Rattle.demand.specs.Offending.{LowestOffending, BitTold}
-use Rattle.demand.specs.Meetings.{Meeting, meetingAt, Goes, leaves}
+use Rattle.demand.specs.Meetings.{Meeting, meetingAt, Goes, leaves, StepsOn, stepsDone}
 use Rattle.demand.specs.Breaks.{brokenRule, breaks, FirstBroken, issueFields}
 
 -- ---- the numbers of the table
@@ -100,10 +100,14 @@ pub record Demand3 (job : List ℕ) : Type 0 where
       → runOf job s .outcome ≡ Finished (issueFields (fieldsFrom job 0))
   -- these are the fields with tag 5
   pub issues : (w : WellShaped job) → issueFields (fieldsFrom job 0) ≡ tagged 5 (fieldsOf w)
+  -- that many single steps are done along the run, each on the record and the lent numbers that the fields before it leave
+  pub carried : (n : ℕ) → precheckOf job ≡ checked.Passed n → (s : State) → Lengths s → stepsDone job (fieldsFrom job 0) start s ≡ issueFields (fieldsFrom job 0)
   -- no field and no instruction is refused, from the first to the last, and what the last one leaves is what the run leaves
   pub goes : (n : ℕ) → precheckOf job ≡ checked.Passed n → (s : State) → Lengths s → (k : ℕ) (x : Meeting) → meeting job s k ≡ some x → Goes x
   pub ends : (n : ℕ) → precheckOf job ≡ checked.Passed n → (s : State) → Lengths s
       → (k : ℕ) (x : Meeting) → meeting job s k ≡ some x → meeting job s (suc k) ≡ none → runOf job s .state ≡ leaves job x
+  -- each instruction hands on what its single step gives back
+  pub steps : (s : State) (k : ℕ) (x y : Meeting) → meeting job s k ≡ some x → meeting job s (suc k) ≡ some y → StepsOn x y
   -- over any two states of the right sizes it prints the same, in numbers and as texts
   pub prints : (n : ℕ) → precheckOf job ≡ checked.Passed n → (s t : State) → Lengths s → Lengths t
       → printedOf job (runOf job s) ≡ printedOf job (runOf job t)
@@ -126,7 +130,7 @@ pub record Demand3 (job : List ℕ) : Type 0 where
 
 -- ---- demand 1: a refusal is a number of the table, leaves every lent number as it stood, and prints no row
 
--- the job run, over any state: 9 at place 0 first of all, and never 10
+-- the job run, over any state: 9 at place 0 first of all
 pub record Demand1 (job : List ℕ) (s : State) : Type 0 where
   pub unsized : (Lengths s → ⊥) → runOf job s ≡ ran (Refused StateLength 0) s
   pub kept : (r : Refusal) (p : ℕ) → runOf job s .outcome ≡ Refused r p → runOf job s .state ≡ s

@@ -4,4 +4,5 @@ pub mod RecordRange
 pub mod Breaks
 pub mod Offending
 pub mod Meetings
+pub mod Numbers
 pub mod Demand

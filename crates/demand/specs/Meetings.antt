@@ -1,15 +1,16 @@
 -- Document 01, "What the proofs have to shut out": the first field gets the start record and the lent numbers, each later one what the one before it left.
--- What each field of a job meets in a run, and that none is refused there. Definitions only.
+-- What each field of a job meets in a run, that none is refused there, and how many single steps are done. Definitions only.
 use mathlib.Core.Path.{_≡_}
 use mathlib.Core.Bool.{false}
 use mathlib.Core.List.{List, [], _∷_}
 use mathlib.Core.Option.{Option, none, some}
-use Prim.Native.Nat.{ℕ, zero, suc}
+use Prim.Native.Nat.{ℕ, zero, suc, _+_}
 use Rattle.cells.specs.State.{State}
 use Rattle.word.specs.declared.Refusal.{Refusal}
 use Rattle.control.specs.declared.Control.{Control}
 use Rattle.rules.specs.declared.Verdict.the-variants.{Done}
-use Rattle.step.specs.Step.{verdictOf}
+use Rattle.step.specs.Step.{verdictOf, ifDone, steppedOf, stateOf}
+use Rattle.job.specs.declared.Kind.{Kind}
 use Rattle.job.specs.declared.Kind.the-variants as kind
 use Rattle.job.specs.declared.Field.{Field}
 use Rattle.precheck.specs.Marks.{Marks}
@@ -41,3 +42,22 @@ pub record Goes (x : Meeting) : Type 0 where
 -- the lent numbers after it
 abbrev pub leaves : List ℕ → Meeting → State
 leaves job x = performed job (x .control) (x .field .place) (x .field .kind) (x .state)
+
+-- what the single step of an instruction gives back, record and lent numbers, is what the next field meets
+pub record StepsOn (x y : Meeting) : Type 0 where
+  pub control : (t w : ℕ) → x .field .kind ≡ kind.Issue t w → y .control ≡ steppedOf (x .control) t w (x .state) .control
+  pub state : (t w : ℕ) → x .field .kind ≡ kind.Issue t w → y .state ≡ stateOf (x .control) t w (x .state)
+
+-- 1 for an instruction whose single step is done
+abbrev pub doneOf : Control → Kind → State → ℕ
+doneOf c kind.Settings s = 0
+doneOf c (kind.Issue t w) s = ifDone (verdictOf c t w s) 1 0
+doneOf c (kind.HandOver file) s = 0
+doneOf c (kind.Writes x) s = 0
+doneOf c (kind.Prints o) s = 0
+doneOf c (kind.Wrong x) s = 0
+
+-- how many of the fields are such instructions, each on the record and the lent numbers that the fields before it leave
+unfoldable pub stepsDone : List ℕ → List Field → Control → State → ℕ
+stepsDone job [] c s = 0
+stepsDone job (f ∷ fs) c s = doneOf c (f .kind) s + stepsDone job fs (controlOn job c (f .place) (f .kind) s) (performed job c (f .place) (f .kind) s)

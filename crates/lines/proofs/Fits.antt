@@ -9,6 +9,7 @@ use Rattle.cells.specs.Layout.{register}
 use Rattle.cells.specs.Places.{rowCount}
 use Rattle.cells.specs.State.{State}
 use Rattle.word.specs.Refusal.{numberOf, bitOf}
+use Rattle.word.proofs.Numbers.{tabled-byte}
 use Rattle.job.specs.Range.{RowsIn, OutputIn, InRange}
 use Rattle.job.specs.Fields.{fieldsFrom, EachField}
 use Rattle.job.specs.declared.Output.{Output}
@@ -79,7 +80,7 @@ fit-run : (job : List ℕ) (o : Outcome) (s : State) → Small (outcomeAnswer o)
 unfolding printedBy printedText finishedText refusedText linesOf
 fit-run job (Finished n) s h = (number-short wordFinished n (omega arith) (omega arith), fit-lines job (fieldsFrom job 0) s (sound job 0))
 fit-run job (Refused r place) s h =
-    (numbers-short wordRefused (numberOf r) (omega (arith, h .0)) (omega arith) wordAt place (omega (arith, h .1)) (omega arith) (bitText (bitOf r)) (bit-short (bitOf r) (omega (arith, h .2 .1))), tt)
+    (numbers-short wordRefused (numberOf r) (omega (arith, tabled-byte (numberOf r) (h .0))) (omega arith) wordAt place (omega (arith, h .1)) (omega arith) (bitText (bitOf r)) (bit-short (bitOf r) (omega (arith, h .2 .1))), tt)
 
 length-map : {A B : Type 0} (f : A → B) (l : List A) → length (map f l) ≡ length l
 length-map f [] = refl

@@ -14,9 +14,10 @@ use Rattle.word.specs.declared.Refusal.the-variants as refusal
 use Rattle.control.specs.declared.Control.{Control}
 use Rattle.control.specs.Record.{start}
 use Rattle.rules.specs.After.{recordAfter}
-use Rattle.rules.specs.Rules.{lowest}
+use Rattle.rules.specs.Rules.{_when_, rules, lowest, judgement}
 use Rattle.rules.specs.declared.Verdict.{Verdict}
 use Rattle.rules.specs.declared.Verdict.the-variants as verdict
+use Rattle.rules.proofs.Reading.{parts-done}
 use Rattle.job.specs.Fields.{jobWidth, fieldAt, fieldsFrom, EachField}
 use Rattle.job.specs.Shape.{shapeOf}
 use Rattle.job.specs.declared.Shape.{Shape}
@@ -28,7 +29,7 @@ use Rattle.job.proofs.Walk.{next-after, Reached, reached-first, reached-end, re
 use Rattle.walk.specs.FieldRecord.{fieldControl, issueOf}
 use Rattle.walk.proofs.RecordKept.{issue-most}
 use Rattle.precheck.specs.Marks.{Marks, marks, unsetBut, unset}
-use Rattle.precheck.specs.Judging.{fieldRules}
+use Rattle.precheck.specs.Judging.{unsetRead, fieldRules}
 use Rattle.precheck.specs.Marking.{fieldMarks}
 use Rattle.precheck.specs.Instruction.{InstructionChecked}
 use Rattle.precheck.specs.Check.{unlessBroken, checkFrom, unlessWrong, precheckOf, checkedAnswer, precheckAnswer}
@@ -62,6 +63,11 @@ module _ (job : List ℕ) (f : Field) (fs : List Field) (c : Control) (m : Marks
       go : (v : Verdict) (next : Checked) → unlessBroken v (f .place) next ≡ Passed k → (v ≡ verdict.Done) × (next ≡ Passed k)
       go verdict.Done next e = (refl, e)
       go (verdict.Refused r) next e = absurd (let z : _≡_ {A = ℕ} 0 1 = cc in omega arith)
+
+-- an instruction that broke no rule broke none of the single step's
+pub issue-judged : (c : Control) (m : Marks) (t w : ℕ) → lowest (fieldRules c m (Issue t w)) ≡ verdict.Done → judgement c t w ≡ verdict.Done
+unfolding fieldRules judgement
+issue-judged c m t w h = parts-done (rules c t w) ((refusal.UnsetRead when unsetRead c m t w) ∷ []) h .0
 
 -- what each field has that breaks a rule, the one that is named has
 pub check-has : (P : Refusal → ℕ → Type 0) (job : List ℕ) (fs : List Field)

@@ -8,53 +8,58 @@ use lib.ListN.{length}
 use Rattle.cells.specs.State.{State, sized}
 use Rattle.cells.specs.Layout.{threadCount}
 use Rattle.cells.proofs.Sizes.{Sizes, sized-of}
-use Rattle.word.specs.Word.{readWord}
 use Rattle.word.specs.declared.Operands.{Operands}
-use Rattle.word.specs.declared.Read.{Read}
 use Rattle.word.specs.declared.Read.the-variants as read
 use Rattle.word.specs.declared.Refusal.{Refusal}
-use Rattle.word.specs.declared.Refusal.the-variants.{StateLength, StepRefused}
+use Rattle.word.specs.declared.Refusal.the-variants.{StateLength}
 use Rattle.control.specs.declared.Control.{Control}
 use Rattle.control.specs.Record.{start}
 use Rattle.control.specs.Range.{inRange}
 use Rattle.control.proofs.StaysInRange.{start-kept}
-use Rattle.rules.specs.Rules.{operandRules, lowest}
-use Rattle.rules.specs.After.{recordAfter}
-use Rattle.rules.proofs.Reading.{judged-refused}
-use Rattle.rules.specs.declared.Verdict.{Verdict}
+use Rattle.rules.specs.Rules.{operandRules, lowest, judgement}
+use Rattle.rules.specs.After.{acting, recordAfter, controlAfter}
+use Rattle.rules.proofs.Reading.{judged-read, judged-operands}
 use Rattle.rules.specs.declared.Verdict.the-variants as verdict
 use Rattle.step.specs.Inside.{acted}
-use Rattle.step.specs.Step.{ifDone, verdictOf, steppedOf, stateOf}
-use Rattle.step.specs.declared.Stepped.{Stepped}
+use Rattle.step.specs.Step.{verdictOf, steppedOf}
 use Rattle.step.proofs.Verdicts as Step
-use Rattle.job.specs.Fields.{fieldAt, fieldsFrom}
+use Rattle.job.specs.Fields.{jobWidth, fieldAt, fieldsFrom}
 use Rattle.job.specs.declared.Kind.{Kind}
 use Rattle.job.specs.declared.Kind.the-variants as kind
 use Rattle.job.specs.declared.Field.{Field}
 use Rattle.job.specs.Range.{InRange}
 use Rattle.job.proofs.Shaped.{Sound, sound-at}
-use Rattle.job.proofs.Walk.{next-after, Reached, reached-first, reached-end, reached-stop, reached-on}
+use Rattle.job.proofs.Walk.{fields-step, next-after, Reached, reached-first, reached-end, reached-on}
 use Rattle.walk.specs.FieldRecord.{fieldControl, issueOf}
 use Rattle.walk.proofs.RecordKept.{control-kept, issue-most}
-use Rattle.precheck.specs.Check.{precheckOf}
+use Rattle.precheck.specs.Marks.{Marks, unset}
+use Rattle.precheck.specs.Judging.{fieldRules}
+use Rattle.precheck.specs.Marking.{fieldMarks}
+use Rattle.precheck.specs.Check.{checkFrom, precheckOf, Passes}
+use Rattle.precheck.proofs.Checking.{check-passed, issue-judged, precheck-passed}
 use Rattle.precheck.specs.declared.Checked.the-variants as checked
-use Rattle.run.specs.Perform.{performed, controlOn, stepVerdict}
+use Rattle.run.specs.Perform.{performed, controlOn}
 use Rattle.run.specs.Run.{Ran, ran, execute, runOf, outcomeAnswer, runAnswer}
 use Rattle.run.specs.declared.Outcome.{Outcome}
 use Rattle.run.specs.declared.Outcome.the-variants.{Finished, Refused}
 use Rattle.run.proofs.Performs.{performed-sizes}
 
--- ---- the record
+-- ---- a field that breaks no rule, on a record in range and a state of the right sizes
 
--- a field that does not refuse leaves the record that the pre-check goes by
-pub done-control : (job : List ℕ) (c : Control) (place : ℕ) (k : Kind) (s : State) → stepVerdict c k s ≡ verdict.Done → controlOn job c place k s ≡ fieldControl job c place k
-unfolding controlOn stepVerdict fieldControl steppedOf
-done-control job c place kind.Settings s e = refl
-done-control job c place (kind.Issue t w) s e = rw e
-done-control job c place (kind.HandOver file) s e = refl
-done-control job c place (kind.Writes x) s e = refl
-done-control job c place (kind.Prints o) s e = refl
-done-control job c place (kind.Wrong x) s e = refl
+module _ (c : Control) (m : Marks) (range : inRange c ≡ true) (s : State) (size : Sizes s) where
+  -- the single step of an instruction is done
+  pub step-done : (t w : ℕ) → t < threadCount → lowest (fieldRules c m (kind.Issue t w)) ≡ verdict.Done → verdictOf c t w s ≡ verdict.Done
+  step-done t w l h = Step.judged-is c t w s (sized-of s size) range l ∙ issue-judged c m t w h
+
+  -- so any field leaves the record that the pre-check goes by
+  pub control-same : (job : List ℕ) (place : ℕ) (k : Kind) → InRange k → lowest (fieldRules c m k) ≡ verdict.Done → controlOn job c place k s ≡ fieldControl job c place k
+  unfolding controlOn fieldControl steppedOf
+  control-same job place kind.Settings i h = refl
+  control-same job place (kind.Issue t w) i h = rw (step-done t w i h)
+  control-same job place (kind.HandOver file) i h = refl
+  control-same job place (kind.Writes x) i h = refl
+  control-same job place (kind.Prints o) i h = refl
+  control-same job place (kind.Wrong x) i h = refl
 
 -- ---- over a list of fields
 
@@ -62,20 +67,10 @@ pub execute-none : (job : List ℕ) (c : Control) (s : State) (n : ℕ) → exec
 unfolding execute
 execute-none job c s n = refl
 
-module _ (job : List ℕ) (f : Field) (fs : List Field) (c : Control) (s : State) (n : ℕ) where
-  pub execute-next : stepVerdict c (f .kind) s ≡ verdict.Done
-      → execute job (f ∷ fs) c s n ≡ execute job fs (controlOn job c (f .place) (f .kind) s) (performed job c (f .place) (f .kind) s) (n + issueOf (f .kind))
-  unfolding execute
-  execute-next e = rw e
-
-  -- the same with the record by the field alone
-  pub execute-done : stepVerdict c (f .kind) s ≡ verdict.Done
-      → execute job (f ∷ fs) c s n ≡ execute job fs (fieldControl job c (f .place) (f .kind)) (performed job c (f .place) (f .kind) s) (n + issueOf (f .kind))
-  execute-done e = rw (← done-control job c (f .place) (f .kind) s e) (execute-next e)
-
-  pub execute-refused : (r : Refusal) → stepVerdict c (f .kind) s ≡ verdict.Refused r → execute job (f ∷ fs) c s n ≡ ran (Refused StepRefused (f .place)) s
-  unfolding execute
-  execute-refused r e = rw e
+pub execute-next : (job : List ℕ) (f : Field) (fs : List Field) (c : Control) (s : State) (n : ℕ)
+    → execute job (f ∷ fs) c s n ≡ execute job fs (controlOn job c (f .place) (f .kind) s) (performed job c (f .place) (f .kind) s) (n + issueOf (f .kind))
+unfolding execute
+execute-next job f fs c s n = refl
 
 -- ---- the walk's loop
 
@@ -91,15 +86,27 @@ hand c s n = record { control = c; lent = s; count = n }
 abbrev walk : List ℕ → List Field → Hand → Ran
 walk job fs h = execute job fs (h .control) (h .lent) (h .count)
 
+-- here the fields from `at` on pass, judged on the marks that those before it left
 pub record Running (job : List ℕ) (s₀ : State) (c : Control) (at n : ℕ) (s : State) : Type 0 where
   pub reached : Reached (walk job) job 0 (hand start s₀ 0) at (hand c s n)
   pub range : inRange c ≡ true
   pub size : Sizes s
   pub few : n ≤ at
+  pub marked : Marks
+  pub total : ℕ
+  pub passes : checkFrom job (fieldsFrom job at) c marked n ≡ checked.Passed total
 
-pub running-first : (job : List ℕ) (s : State) (c : Control) → Sizes s → c ≡ start → Running job s c 0 0 s
-running-first job s c z e =
-    record { reached = rw e (reached-first (walk job) job 0 (hand start s 0)); range = ap inRange e ∙ start-kept; size = z; few = omega arith }
+pub running-first : (job : List ℕ) (s : State) (c : Control) → Sizes s → Passes job → c ≡ start → Running job s c 0 0 s
+running-first job s c z p e =
+    record {
+      reached = rw e (reached-first (walk job) job 0 (hand start s 0));
+      range = ap inRange e ∙ start-kept;
+      size = z;
+      few = omega arith;
+      marked = unset (jobWidth job);
+      total = p .0;
+      passes = rw e (precheck-passed job (p .0) (p .1) .1);
+    }
 
 -- what the walk answers and leaves
 abbrev Left : List ℕ → State → Outcome → State → Type 0
@@ -114,55 +121,47 @@ module _ (job : List ℕ) (s₀ : State) (c : Control) (at n : ℕ) (s : State) 
 
   -- f is the field there, of kind k
   module _ (f : Field) (h : at < length job) (e : f ≡ fieldAt job at) (k : Kind) (q : f .kind ≡ k) where
-    pub turn-on : stepVerdict c k s ≡ verdict.Done → {c′ : Control} {s′ : State} {n′ : ℕ} → c′ ≡ controlOn job c (f .place) k s → s′ ≡ performed job c (f .place) k s → n′ ≡ n + issueOf k
+    sound : Sound job f
+    sound = subst (Sound job) (sym e) (sound-at job at h)
+
+    in-range : InRange k
+    in-range = subst InRange q (sound .range)
+
+    here : fieldsFrom job at ≡ f ∷ fieldsFrom job (f .next)
+    here = fields-step job at h ∙ ap (λ (g : Field). g ∷ fieldsFrom job (g .next)) (sym e)
+
+    -- it breaks no rule, and those after it pass
+    ahead : (lowest (fieldRules c (t .marked) (f .kind)) ≡ verdict.Done)
+        × (checkFrom job (fieldsFrom job (f .next)) (fieldControl job c (f .place) (f .kind)) (fieldMarks c (t .marked) (f .kind)) (n + issueOf (f .kind)) ≡ checked.Passed (t .total))
+    ahead = check-passed job f (fieldsFrom job (f .next)) c (t .marked) n (t .total) (ap (λ (fs : List Field). checkFrom job fs c (t .marked) n) (sym here) ∙ t .passes)
+
+    unbroken : lowest (fieldRules c (t .marked) k) ≡ verdict.Done
+    unbroken = ap (λ (x : Kind). lowest (fieldRules c (t .marked) x)) (sym q) ∙ ahead .0
+
+    pub turn-on : {c′ : Control} {s′ : State} {n′ : ℕ} → c′ ≡ fieldControl job c (f .place) k → s′ ≡ performed job c (f .place) k s → n′ ≡ n + issueOf k
         → Running job s₀ c′ (f .next) n′ s′
-    turn-on v {c′} {s′} {n′} ce se i =
+    turn-on {c′} {s′} {n′} ce se i =
+        let same = control-same c (t .marked) (t .range) s (t .size) job (f .place) k in-range unbroken in
         record {
           reached = reached-on (walk job) job (t .reached) f h e (hand c′ s′ n′)
-              (rw (ce, se, i, ← q) (execute-next job f (fieldsFrom job (f .next)) c s n (rw q v)));
-          range = ap inRange (ce ∙ done-control job c (f .place) k s v ∙ ap (fieldControl job c (f .place)) (sym q))
-              ∙ control-kept job c f (t .range) (subst (Sound job) (sym e) (sound-at job at h));
+              (rw (ce, ← same, se, i, ← q) (execute-next job f (fieldsFrom job (f .next)) c s n));
+          range = ap inRange (ce ∙ ap (fieldControl job c (f .place)) (sym q)) ∙ control-kept job c f (t .range) sound;
           size = rw se (performed-sizes job c (f .place) k s (t .size));
           few = omega (arith, i, issue-most k, t .few, next-after job at f h e);
+          marked = fieldMarks c (t .marked) (f .kind);
+          total = t .total;
+          passes = rw (ce, i, ← q) (ahead .1);
         }
 
-    turn-stop : (x : Refusal) → stepVerdict c k s ≡ verdict.Refused x → (s′ : State) → s′ ≡ s → Left job s₀ (Refused StepRefused (f .place)) s′
-    turn-stop x v s′ se =
-        left job s₀ (Refused StepRefused (f .place)) s′
-        (rw se (reached-stop (walk job) job (t .reached) f h e (ran (Refused StepRefused (f .place)) s) (execute-refused job f (fieldsFrom job (f .next)) c s n x (rw q v))))
-
-  -- f is an issue field there
-  module _ (f : Field) (h : at < length job) (e : f ≡ fieldAt job at) (g w : ℕ) (q : f .kind ≡ kind.Issue g w) where
-    thread : g < threadCount
-    thread = subst InRange q (subst (Sound job) (sym e) (sound-at job at h) .range)
-
-    size : sized s ≡ true
-    size = sized-of s (t .size)
-
-    -- the single step stops, or goes on with the record c′
-    stops : (x : Refusal) (s′ : State) → Step.Left c g w s (Step.stopped (verdict.Refused x) c) s′ → Left job s₀ (Refused StepRefused (f .place)) s′
-    unfolding stepVerdict steppedOf stateOf
-    stops x s′ l =
-        let v : verdictOf c g w s ≡ verdict.Refused x = sym (ap (λ (y : Stepped). y .verdict) (l .answer)) in
-        turn-stop f h e (kind.Issue g w) q x v s′ (l .state ∙ rw v)
-
-    goes : (c′ : Control) (s′ : State) → Step.Left c g w s (Step.stopped verdict.Done c′) s′ → Running job s₀ c′ (f .next) (n + 1) s′
-    unfolding stepVerdict controlOn performed steppedOf
-    goes c′ s′ l =
-        turn-on f h e (kind.Issue g w) q (sym (ap (λ (y : Stepped). y .verdict) (l .answer))) (ap (λ (y : Stepped). y .control) (l .answer)) (l .state) refl
-
-    -- its word is not read
-    pub read-stop : (r : Read) → r ≡ readWord w → (x : Refusal) → r ≡ read.Refused x → Left job s₀ (Refused StepRefused (f .place)) s
-    read-stop r p x d = stops x s (Step.by-rule c g w s size (t .range) thread x (judged-refused c g w x (sym p ∙ d)))
-
-    -- or its operands are performed: v is what they break, s′ what they leave
-    module _ (r : Read) (p : r ≡ readWord w) (o : Operands) (d : r ≡ read.Operands o) (v : Verdict) (told : v ≡ lowest (operandRules c g o)) (s′ : State)
-        (leaves : s′ ≡ ifDone v (acted c g o s) s) where
-      pub perform-stop : (x : Refusal) → v ≡ verdict.Refused x → Left job s₀ (Refused StepRefused (f .place)) s′
-      perform-stop x k = stops x s′ (Step.performed-refused c g w s size (t .range) thread o (sym p ∙ d) c refl v told s′ leaves x k)
-
-      pub perform-on : v ≡ verdict.Done → (c′ : Control) → c′ ≡ recordAfter c g o → Running job s₀ c′ (f .next) (n + 1) s′
-      perform-on k c′ after = goes c′ s′ (Step.performed-done c g w s size (t .range) thread o (sym p ∙ d) c refl v told s′ leaves k c′ after)
+  -- f is an issue field there, and o are the operands of its word
+  pub issue-on : (f : Field) → at < length job → f ≡ fieldAt job at → (g w : ℕ) → f .kind ≡ kind.Issue g w
+      → {o : Operands} → o ≡ acting w → {s′ : State} → s′ ≡ acted c g o s → {c′ : Control} → c′ ≡ recordAfter c g o → Running job s₀ c′ (f .next) (n + 1) s′
+  unfolding fieldControl performed controlAfter
+  issue-on f h e g w q {o} oe {s′} se {c′} ce =
+      let j : judgement c g w ≡ verdict.Done = issue-judged c (t .marked) g w (unbroken f h e (kind.Issue g w) q) in
+      let l = Step.performed-done c g w s (sized-of s (t .size)) (t .range) (in-range f h e (kind.Issue g w) q) o (judged-read c g w j ∙ ap read.Operands (sym oe)) c refl verdict.Done
+      (sym (judged-operands c g w j) ∙ ap (λ (x : Operands). lowest (operandRules c g x)) (sym oe)) s′ se refl c′ ce in
+      turn-on f h e (kind.Issue g w) q (ce ∙ ap (recordAfter c g) oe) (l .state) refl
 
 -- ---- the run's answer
 

@@ -1,4 +1,4 @@
--- A job's answer is small: its count or its place is at most 8,192, and a bit, which refusal 3 alone has, below 24. So is a step's bit. Assumes nothing.
+-- A job's answer is small: its count or its place is at most 8,192, its number is one of the table's, and a bit, which refusal 3 alone has, below 24. So is a step's bit. Assumes nothing.
 use mathlib.Core.Path.{_≡_, refl}
 use mathlib.Core.Bool.{true}
 use mathlib.Core.List.{List, [], _∷_}
@@ -10,10 +10,11 @@ use lib.Dec.{ltb}
 use lib.ListN.{length}
 use Rattle.cells.specs.Layout.{jobBytes}
 use Rattle.cells.specs.State.{State, sized}
+use Rattle.cells.specs.Tests.{oneOf}
 use Rattle.cells.proofs.Cells.{split}
-use Rattle.word.proofs.Numbers.{number-byte, HasBit, three, other, has-bit, bit-back}
+use Rattle.word.proofs.Numbers.{tabled, HasBit, three, other, has-bit, bit-back}
 use Rattle.word.proofs.ReadWords.{offending-low}
-use Rattle.word.specs.Refusal.{numberOf, bitOf, bitNumber, bitBy, Answer, done, passed, finished, refused}
+use Rattle.word.specs.Refusal.{numberOf, tableNumbers, bitOf, bitNumber, bitBy, Answer, done, passed, finished, refused}
 use Rattle.word.specs.declared.Refusal.{Refusal}
 use Rattle.word.specs.declared.Refusal.the-variants as refusal
 use Rattle.control.specs.declared.Control.{Control}
@@ -39,20 +40,19 @@ use Rattle.precheck.specs.declared.Checked.{Checked}
 use Rattle.precheck.specs.declared.Checked.the-variants as checked
 use Rattle.precheck.proofs.Checking.{precheck-right, precheck-wrong, precheck-passed}
 use Rattle.precheck.proofs.FieldBits.{field-bit}
-use Rattle.run.specs.Perform.{stepVerdict}
-use Rattle.run.specs.Run.{Ran, unlessRefused, execute, runOf, outcomeAnswer, runAnswer}
+use Rattle.run.specs.Run.{execute, runOf, outcomeAnswer, runAnswer}
 use Rattle.run.proofs.Running.{run-unsized, run-refused, run-passed}
 
 -- a bit beside a number
 abbrev pub SmallBit : ℕ → Option ℕ → Type 0
 SmallBit number bit = (bitBy number (bitNumber bit) ≡ bit) × (bitNumber bit < 24)
 
--- a job's answer whose count or place is at most 8,192, and whose bit is small
+-- a job's answer whose count or place is at most 8,192, whose number is one of the table's, and whose bit is small
 abbrev pub Small : Answer → Type 0
 Small done = ⊥
 Small (passed n) = n ≤ jobBytes
 Small (finished n) = n ≤ jobBytes
-Small (refused number place bit) = (number < 256) × (place ≤ jobBytes) × SmallBit number bit
+Small (refused number place bit) = (oneOf number tableNumbers ≡ true) × (place ≤ jobBytes) × SmallBit number bit
 
 -- a refusal whose bit, if it has one, is small
 pub bit-small : (r : Refusal) → ((i : ℕ) → r ≡ refusal.UnnamedBit i → i < 24) → SmallBit (numberOf r) (bitOf r)
@@ -105,7 +105,7 @@ check-small job (f ∷ fs) c m n i = go (lowest (fieldRules c m (f .kind))) refl
 
     go : (v : Verdict) → lowest (fieldRules c m (f .kind)) ≡ v → (next : Checked) → Small (checkedAnswer next) → Small (checkedAnswer (unlessBroken v (f .place) next))
     go verdict.Done e next h = h
-    go (verdict.Refused r) e next h = (number-byte r, i .0, bit-small r (bit r e))
+    go (verdict.Refused r) e next h = (tabled r, i .0, bit-small r (bit r e))
 
 pub precheck-small : (job : List ℕ) → Small (precheckAnswer job)
 unfolding precheckAnswer
@@ -113,22 +113,18 @@ precheck-small job = go (shapeOf job) refl
   where
     go : (x : Shape) → shapeOf job ≡ x → Small (checkedAnswer (precheckOf job))
     go shape.Right e = rw (precheck-right job e) (check-small job (fieldsFrom job 0) start (unset (jobWidth job)) 0 (inside job (shaped job e .short)))
-    go (shape.WrongAt place) e = rw (precheck-wrong job place e) (number-byte refusal.Shape, shape-inside job place e, no-bit 1 refl)
+    go (shape.WrongAt place) e = rw (precheck-wrong job place e) (tabled refusal.Shape, shape-inside job place e, no-bit 1 refl)
 
 -- ---- the run
 
 execute-small : (job : List ℕ) (fs : List Field) (c : Control) (s : State) (n : ℕ) → Inside n fs → Small (outcomeAnswer (execute job fs c s n .outcome))
 unfolding execute
 execute-small job [] c s n i = i
-execute-small job (f ∷ fs) c s n i = go (stepVerdict c (f .kind) s) _ (execute-small job fs _ _ _ (i .1))
-  where
-    go : (v : Verdict) (next : Ran) → Small (outcomeAnswer (next .outcome)) → Small (outcomeAnswer (unlessRefused v (f .place) s next .outcome))
-    go verdict.Done next h = h
-    go (verdict.Refused r) next h = (number-byte refusal.StepRefused, i .0, no-bit 10 refl)
+execute-small job (f ∷ fs) c s n i = execute-small job fs _ _ _ (i .1)
 
 pub run-small : (job : List ℕ) (s : State) → Small (runAnswer job s)
 unfolding runAnswer precheckAnswer
-run-small job s = split (sized s) (λ z. go z (precheckOf job) refl (precheck-small job)) (λ z. rw (run-unsized job s z) (number-byte refusal.StateLength, omega arith, no-bit 9 refl))
+run-small job s = split (sized s) (λ z. go z (precheckOf job) refl (precheck-small job)) (λ z. rw (run-unsized job s z) (tabled refusal.StateLength, omega arith, no-bit 9 refl))
   where
     go : sized s ≡ true → (x : Checked) → precheckOf job ≡ x → Small (precheckAnswer job) → Small (outcomeAnswer (runOf job s .outcome))
     go z (checked.Passed n) e h =

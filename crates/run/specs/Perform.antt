@@ -7,10 +7,8 @@ use Rattle.cells.specs.Cells.{over, inSpan}
 use Rattle.cells.specs.Places.{overRowsAt}
 use Rattle.control.specs.declared.Control.{Control}
 use Rattle.cells.specs.Layout.{oneRegister}
-use Rattle.rules.specs.declared.Verdict.{Verdict}
-use Rattle.rules.specs.declared.Verdict.the-variants.{Done}
 use Rattle.cells.specs.State.{State, withDst, withRegisters, srcFile, withSrcFile}
-use Rattle.step.specs.Step.{verdictOf, steppedOf, stateOf}
+use Rattle.step.specs.Step.{steppedOf, stateOf}
 use Rattle.job.specs.Kinds.{registerValue}
 use Rattle.job.specs.Loading.{loaded}
 use Rattle.job.specs.Fields.{payloadAt}
@@ -44,12 +42,3 @@ controlOn job c place (kind.HandOver file) s = fieldControl job c place (kind.Ha
 controlOn job c place (kind.Writes x) s = fieldControl job c place (kind.Writes x)
 controlOn job c place (kind.Prints o) s = fieldControl job c place (kind.Prints o)
 controlOn job c place (kind.Wrong x) s = fieldControl job c place (kind.Wrong x)
-
--- whether the single step refuses an instruction; no other field refuses
-unfoldable pub stepVerdict : Control → Kind → State → Verdict
-stepVerdict c kind.Settings s = Done
-stepVerdict c (kind.Issue t w) s = verdictOf c t w s
-stepVerdict c (kind.HandOver file) s = Done
-stepVerdict c (kind.Writes x) s = Done
-stepVerdict c (kind.Prints o) s = Done
-stepVerdict c (kind.Wrong x) s = Done

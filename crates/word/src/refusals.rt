@@ -17,7 +17,6 @@ pub fn number(refusal: Refusal) -> u8
         Refusal::BankOwner => 6,
         Refusal::DstRow => 7,
         Refusal::UnsetRead => 8,
-        Refusal::StepRefused => 10,
     }
 }
 
@@ -35,6 +34,5 @@ pub fn bit(refusal: Refusal) -> u8
         Refusal::BankOwner => 0,
         Refusal::DstRow => 0,
         Refusal::UnsetRead => 0,
-        Refusal::StepRefused => 0,
     }
 }

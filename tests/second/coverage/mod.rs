@@ -9,6 +9,7 @@ mod parts;
 mod passing;
 mod refused;
 mod rows;
+mod skipped;
 mod table;
 
 use std::ops::Range;

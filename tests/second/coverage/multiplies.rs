@@ -4,7 +4,7 @@ use std::ops::Range;
 
 use super::issues::Issued;
 use super::table::{Group, Table};
-use super::{data, parts as taken};
+use super::{data, parts as taken, skipped};
 use crate::engine::{
     change_numbers, parts, src_at, takes_low, State, Width, A, B, BLOCK, CLEAR, COLUMNS,
     DST_COUNTS, DST_ROWS, FILES, FP32, MOST_DST_ROWS,
@@ -21,6 +21,8 @@ pub fn count(table: &mut Table, issued: Issued) {
     let (name, phase) = (it.entry.name, control.phase(issued.thread));
     table.hit(Group::MultiplyFormat, control.format);
     table.hit(Group::MultiplyPhase, format!("{name} {phase}"));
+    let by_counter = skipped::needs_its_counter(control, issued.thread, it.word);
+    table.hit_if(by_counter, Group::DoneByCounter, skipped::NOT_FROM_0);
     let clear = it.get(CLEAR);
     table.hit(Group::MultiplyClear, format!("{name} {clear}"));
     let reads = [

@@ -2,6 +2,7 @@
 
 use super::issues::{self, Issued};
 use super::left::Trail;
+use super::skipped::Skipped;
 use super::table::{Group, Table, Test};
 use super::{dst_rows, mode, Mode, MULTIPLY};
 use crate::engine::{
@@ -26,7 +27,8 @@ pub fn count(table: &mut Table, bytes: &[u8]) {
     table.hit(Group::Jobs, "passing");
     table.hit_if(bytes.len() == JOB_BYTES, Group::Size, size_row());
     let (mut control, mut marks) = (Control::start(), Marks::start());
-    let (mut trail, mut state) = (Trail::default(), State::zero());
+    let (mut trail, mut skipped) = (Trail::default(), Skipped::default());
+    let mut state = State::zero();
     let fields = shape(bytes).0;
     let width = width_of(&fields);
     for (place, field) in fields {
@@ -43,6 +45,8 @@ pub fn count(table: &mut Table, bytes: &[u8]) {
         count_field(table, &control, &field, &state);
         trail.count(table, &control, &marks, &field, true);
         trail.follow(&control, &field);
+        skipped.count(table, &control, &field);
+        skipped.follow(&control, &field);
         act(&control, &field, &mut state);
         follow(&mut control, &mut marks, &field);
     }

@@ -1,6 +1,7 @@
 //! Refused jobs by what they were refused for.
 
 use super::left::Trail;
+use super::skipped::Skipped;
 use super::table::{Group, Table, Test};
 use super::{bits, dst_rows, mode};
 use crate::engine::{
@@ -40,19 +41,21 @@ pub fn count(table: &mut Table, bytes: &[u8], refusal: Refusal, place: usize) {
         return count_shape(table, bytes, place, &fields);
     }
     let (mut control, mut marks) = (Control::start(), Marks::start());
-    let mut trail = Trail::default();
+    let (mut trail, mut skipped) = (Trail::default(), Skipped::default());
     for placed @ (at, field) in &fields {
         if *at == place {
             match refusal {
                 Refusal::UnknownOpcode | Refusal::UnnamedBit { .. } => {
                     bits::count(table, &control, &marks, &fields, placed);
                 }
+                Refusal::OtherOwner | Refusal::DstRow => skipped.count(table, &control, field),
                 Refusal::Unset => trail.count(table, &control, &marks, field, false),
                 _ => {}
             }
             return count_field(table, &control, &marks, field, refusal);
         }
         trail.follow(&control, field);
+        skipped.follow(&control, field);
         follow(&mut control, &mut marks, field);
     }
     unreachable!("a refusal names a field");
@@ -133,7 +136,7 @@ fn count_field(
         Refusal::DstRow => table.hit(Group::DstRow, known().entry.name),
         Refusal::Unset => count_unset(table, control, marks, field),
         Refusal::Shape | Refusal::UnknownOpcode | Refusal::UnnamedBit { .. } => {}
-        Refusal::LentLength | Refusal::AfterPrecheck => {}
+        Refusal::LentLength => {}
     }
 }
 

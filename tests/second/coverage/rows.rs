@@ -2,11 +2,11 @@
 
 use super::multiplies::{AFTER, BEFORE, DATUM, ROUNDING};
 use super::table::{Group, Table};
-use super::{bits, data, issues, left, parts, passing, refused, Mode, MULTIPLY};
+use super::{bits, data, issues, left, parts, passing, refused, skipped, Mode, MULTIPLY};
 use crate::engine::{
     Class, Control, Entry, Field, Instruction, Name, Refusal, Scalar, Slot, Tag, Thread, What,
-    Width, A, BANKS, BF16, BITWOPDMAREG, BLOCK, CLREXPHIST, FILES, INCRWC, PHASES, SHIFTXB, SLOTS,
-    SRC, SRC_ROWS, TABLE, TF32, THREADS, ZEROSRC,
+    Width, A, BANKS, BF16, BITWOPDMAREG, BLOCK, CLREXPHIST, FILES, INCRWC, PHASES, SETRWC, SHIFTXB,
+    SLOTS, SRC, SRC_ROWS, TABLE, TF32, THREADS, ZEROSRC,
 };
 use crate::explain::Reason;
 
@@ -39,6 +39,7 @@ pub fn table() -> Table {
     enter_banks(&mut table);
     enter_classes(&mut table);
     enter_left(&mut table);
+    enter_skipped(&mut table);
     enter_data(&mut table);
     enter_ranges(&mut table);
     table
@@ -183,6 +184,24 @@ fn enter_left(table: &mut Table) {
     }
     let sets = |class: Class| class.is_multiply() || class == Class::Legacy;
     table.enter(Group::BetweenLegacy, names(|entry| !sets(entry.class)));
+}
+
+/// Instructions that are done or refused only by the one before them.
+fn enter_skipped(table: &mut Table) {
+    table.enter(
+        Group::DoneByClear,
+        names(|entry| entry.class.needs_a_bank()),
+    );
+    let clears = names(|entry| entry.find(Name::Clear).is_some());
+    table.enter(Group::RefusedByClear, clears);
+    let group = Group::DoneByCounter;
+    table.enter(group, [skipped::NOT_FROM_0]);
+    let own = [Class::SetRwc, Class::IncRwc];
+    let moves = names(|entry| entry.slot.is_some() || own.contains(&entry.class));
+    table.enter(group, moves.into_iter().map(skipped::moved_by));
+    table.enter(group, multiplies().into_iter().map(skipped::then));
+    let kinds = [&SHIFTXB, &SETRWC, &INCRWC].map(skipped::kind);
+    table.enter(Group::RefusedByCounter, kinds);
 }
 
 fn enter_data(table: &mut Table) {

@@ -1,7 +1,5 @@
 //! What a job or a single step is answered.
 
-use std::ops::RangeInclusive;
-
 /// Document 01's table of numbers given back.
 #[derive(Debug, Clone, Copy, PartialEq, Eq)]
 pub enum Refusal {
@@ -19,12 +17,15 @@ pub enum Refusal {
     Unset,
     /// A lent slice has another length.
     LentLength,
-    AfterPrecheck,
 }
 
 impl Refusal {
-    /// The numbers that the pre-check gives.
-    pub const OF_PRECHECK: RangeInclusive<u8> = 1..=8;
+    /// The numbers that the pre-check gives: it is lent the job only.
+    pub const OF_PRECHECK: &'static [u8] = &[1, 2, 3, 4, 5, 6, 7, 8];
+    /// Those of the run.
+    pub const OF_RUN: &'static [u8] = &[1, 2, 3, 4, 5, 6, 7, 8, 9];
+    /// Those of the single step, which knows no marks.
+    pub const OF_STEP: &'static [u8] = &[1, 2, 3, 4, 5, 6, 7, 9];
 
     pub fn number(self) -> u8 {
         match self {
@@ -37,7 +38,6 @@ impl Refusal {
             Refusal::DstRow => 7,
             Refusal::Unset => 8,
             Refusal::LentLength => 9,
-            Refusal::AfterPrecheck => 10,
         }
     }
 
@@ -68,6 +68,14 @@ pub enum Answer {
 }
 
 impl Answer {
+    /// A refusal's number.
+    pub fn number(&self) -> Option<u8> {
+        match self {
+            Answer::Finished(_) => None,
+            Answer::Refused { refusal, .. } => Some(refusal.number()),
+        }
+    }
+
     /// The answer's line. The pre-check and the run call a passing job by another word.
     pub fn line(&self, passed: &str) -> String {
         match self {

@@ -6,7 +6,7 @@ use super::{
 };
 
 /// SETRWC's bits for Dst and the phase; those for SrcA and SrcB are 0 and 1.
-const WHICH_DST: u32 = 4;
+pub const WHICH_DST: u32 = 4;
 const WHICH_PHASE: u32 = 8;
 
 #[inline]

@@ -42,16 +42,22 @@ pub fn run_with(
     let mut control = Control::start();
     for (place, field) in fields(job) {
         if let Field::Issue { thread, word } = field {
-            match rules(&control, thread, word) {
-                Err(_) => return Refusal::AfterPrecheck.at(place),
-                Ok(it) => change_numbers(&control, thread, it, state),
-            }
+            let it = passed(&control, thread, word, place);
+            change_numbers(&control, thread, it, state);
         } else {
             act(&control, &field, state);
         }
         follow_record(&mut control, &field);
     }
     answer
+}
+
+/// The instruction of an issue field in a run. The pre-check passed the job, so a rule that is
+/// broken here is a defect of this program, which no answer may hide.
+fn passed(control: &Control, thread: usize, word: u32, place: usize) -> Instruction {
+    rules(control, thread, word).unwrap_or_else(|refusal| {
+        panic!("the pre-check passed the word at {place}, and the run refuses it: {refusal:?}")
+    })
 }
 
 fn row_line(width: Width, row: usize, state: &State) -> String {

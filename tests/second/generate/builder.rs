@@ -214,11 +214,17 @@ impl Builder<'_> {
             self.ready_last()?;
             return self.issue(other, SHIFTXA.word(&[(Name::Mode, 2 + direction)]));
         }
-        let row = (self.control.b_row(thread) + self.rng.index(rows)) as u32;
-        let counter = u32::from(self.control.threads[other].src[B]);
+        let row = self.control.b_row(thread) + self.rng.index(rows);
         let word = compose(self.rng, &SHIFTXB);
+        let word = self.with_row(other, word, row);
+        self.issue(other, word)
+    }
+
+    /// The SHIFTXB with the row field that leads to a row, all its 10 bits in use.
+    pub fn with_row(&mut self, thread: usize, word: u32, row: usize) -> u32 {
+        let counter = u32::from(self.control.threads[thread].src[B]);
         let turns = SRC_ROWS as u32;
-        let row = row.wrapping_sub(counter) % turns + turns * self.rng.below(16);
-        self.issue(other, SHIFTXB.put(word, Name::Row, row))
+        let row = (row as u32).wrapping_sub(counter) % turns + turns * self.rng.below(16);
+        SHIFTXB.put(word, Name::Row, row)
     }
 }

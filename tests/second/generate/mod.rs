@@ -5,6 +5,7 @@
 #![allow(dead_code)]
 
 mod builder;
+mod counter;
 mod damage;
 mod edges;
 mod grow;

@@ -35,7 +35,7 @@ impl Builder<'_> {
     }
 
     /// The dst field below 1,024 that leads to a sum.
-    fn dst_for(&self, thread: usize, sum: u32) -> u32 {
+    pub fn dst_for(&self, thread: usize, sum: u32) -> u32 {
         sum.wrapping_sub(self.control.dst_sum(thread, 0)) % u32::from(DST_COUNTS)
     }
 
@@ -296,12 +296,13 @@ impl Builder<'_> {
                 self.unprepared()
             };
         }
-        match self.rng.below(24) {
+        match self.rng.below(26) {
             0..=5 => self.multiply(),
             18 => self.walk(),
             19 => self.both_banks(),
             20 | 21 => self.halfway(),
             22 | 23 => self.shift_after_legacy(),
+            24 | 25 => self.multiply_by_counter(),
             6 => {
                 let entry = self.legacy();
                 self.own_both()?;

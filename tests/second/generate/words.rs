@@ -1,7 +1,9 @@
 //! Words, right and wrong ones.
 
 use super::rng::Rng;
-use crate::engine::{Entry, Name, BELOW_OPCODE, SHIFTXA, TABLE};
+use crate::engine::{
+    Class, Entry, Name, BELOW_OPCODE, INCRWC, SETRWC, SHIFTXA, TABLE, WHICH, WHICH_DST,
+};
 
 pub fn pick_entry(rng: &mut Rng) -> &'static Entry {
     rng.pick(TABLE)
@@ -38,6 +40,24 @@ pub fn compose(rng: &mut Rng, entry: &Entry) -> u32 {
         word = bits.put(word, rng.within(low, high));
     }
     word
+}
+
+/// A word that moves counters, Dst's among them, and gives no bank back.
+pub fn moving_word(rng: &mut Rng) -> u32 {
+    let entry = match rng.below(4) {
+        0 => &SETRWC,
+        1 => &INCRWC,
+        _ => pick_where(rng, |entry| entry.slot.is_some()),
+    };
+    let word = compose(rng, entry);
+    match entry.class {
+        Class::IncRwc | Class::ShiftXb => word,
+        Class::SetRwc => {
+            let which = WHICH.get(word) | WHICH_DST;
+            entry.put(WHICH.put(word, which), Name::Clear, 0)
+        }
+        _ => entry.put(word, Name::Clear, 0),
+    }
 }
 
 /// A word of an entry with any bits.

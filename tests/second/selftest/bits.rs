@@ -70,7 +70,6 @@ pub const CASES: &[Case] = &[
             (Refusal::DstRow, "refused 7 at 172"),
             (Refusal::Unset, "refused 8 at 172"),
             (Refusal::LentLength, "refused 9 at 172"),
-            (Refusal::AfterPrecheck, "refused 10 at 172"),
         ];
         let mut others = others.into_iter();
         others.try_for_each(|(refusal, line)| same(refusal.at(172).line("finished"), line))

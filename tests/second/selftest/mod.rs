@@ -3,11 +3,13 @@
 mod bits;
 mod halves;
 mod legacy;
+mod numbers;
 mod papers;
 mod parts;
 mod steps;
 
 use std::fmt::Debug;
+use std::panic::catch_unwind;
 
 use crate::engine::{output, State};
 use crate::worked::{bytes, Written};
@@ -37,11 +39,14 @@ pub fn selftest() -> (String, bool) {
         legacy::CASES,
         parts::CASES,
         bits::CASES,
+        numbers::CASES,
     ]
     .concat();
     let (mut text, mut failed) = (String::new(), 0);
     for (name, test) in &cases {
-        if let Err(what) = test() {
+        // A defect that ends in a panic tells its place by itself, and here the case that met it.
+        let verdict = catch_unwind(test).unwrap_or_else(|_| Err("a panic".to_string()));
+        if let Err(what) = verdict {
             failed += 1;
             text += &format!("failed: {name}: {what}\n");
         }

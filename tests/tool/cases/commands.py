@@ -8,7 +8,7 @@ import tempfile
 from pathlib import Path
 
 from .check import Case, equal, has
-from .made import EXAMPLES, TOOL, read
+from .made import EXAMPLES, GONE_10, TOOL, read
 
 
 def call(*arguments, given=b"", tool=TOOL, folder=None):
@@ -66,6 +66,7 @@ def wrong_calls():
         ("list", EXAMPLES),
         ("explain", EXAMPLES / "register.job", 8, 181),
         ("explain", EXAMPLES / "register.job", 11, 180),
+        ("explain", EXAMPLES / "register.job", 0, 180),
         ("explain", EXAMPLES / "register.job", "x", "y"),
         ("list", EXAMPLES / "register.job", "--refused", "finished 1"),
         ("explain", EXAMPLES / "refused_8.job", 8, 180, 0),
@@ -77,6 +78,17 @@ def wrong_calls():
         answer = call(*arguments)
         told = answer.returncode == 1 and bool(answer.stderr.strip()) and b"Traceback" not in answer.stderr
         yield Case(f"{arguments[0]} {arguments[2:]} is told what is wrong", told, result(answer), "1 and a message")
+
+
+def gone():
+    """A number that left the table is turned down, wherever it is said to be and whatever the file is."""
+    message = f"{GONE_10}\n".encode()
+    for name in ("register", "refused_7"):
+        job = EXAMPLES / f"{name}.job"
+        for place in (0, 163, 172, 9999):
+            yield equal(f"explain {name} 10 {place}", result(call("explain", job, 10, place)), (1, b"", message))
+            answer = call("list", job, "--refused", f"refused 10 at {place}\n")
+            yield equal(f"{name} refused 10 at {place}", result(answer), (1, b"", message))
 
 
 def places():
@@ -94,4 +106,4 @@ def places():
         yield equal("nothing is written beside the tool", sorted(tools.rglob("*")), before)
 
 
-GROUPS = (assembling, listing, wrong_calls, places)
+GROUPS = (assembling, listing, wrong_calls, gone, places)

@@ -27,9 +27,28 @@ def limit_jobs():
             yield settings + text, "refused 1 at 163"
 
 
+def counter_jobs():
+    """Texts of jobs whose multiply begins at row 1016 by the base alone, and at row 0 with a Dst counter of 8, which
+    only the instruction before it leaves; with what they answer."""
+    for word, answer in (
+        ("CLREXPHIST", "refused 7 at 194"),
+        ("INCRWC d=7", "refused 7 at 194"),
+        ("INCRWC d=8", "finished"),
+        ("SETRWC which=d d=8", "finished"),
+        ("SETRWC which=a d=8", "refused 7 at 194"),
+        ("CONV3S1 slot=1", "finished"),
+        ("SHIFTXB row=1 slot=1", "finished"),
+        ("MVMUL dst=8 slot=1", "finished"),
+        ("MVMUL slot=1", "refused 7 at 186"),
+    ):
+        settings = "settings format bf16 fp32 base 1016\nslot 0.1 dst +8\n"
+        yield f"{settings}{BANKS}zero dst 0 8\nissue 0 {word}\nissue 0 MVMUL\noutput rows 0 1\n", answer
+
+
 def edge_jobs():
-    """Those, and texts of jobs that reach from one half of BF16 Dst into the other."""
+    """Both, and texts of jobs that reach from one half of BF16 Dst into the other."""
     yield from limit_jobs()
+    yield from counter_jobs()
     for text, answer in (
         ("load dst 500:\n24x 1.5*16\nzero dst 508 8\noutput rows 500 24\n", "finished"),
         (raw_load(0, [0] * 15 + [1 << 16]) + "output rows 0 1\n", "refused 1 at 163"),
@@ -44,11 +63,16 @@ def edge_jobs():
         yield NARROW + text, answer
 
 
+def short(text):
+    """The start and the end of a text, which tell it from others."""
+    return repr(text if len(text) <= 110 else f"{text[:40]} .. {text[-60:]}")
+
+
 def edges():
     for text, answer in edge_jobs():
         data = assembled(text)
-        yield equal(f"{text[:60]!r}.. is {answer}", answer_of(data), answer)
-        yield equal(f"{text[:60]!r}.. listed and assembled", assembled(listing(data)), data)
+        yield equal(f"{short(text)} is {answer}", answer_of(data), answer)
+        yield equal(f"{short(text)} listed and assembled", assembled(listing(data)), data)
 
 
 def multiplies():

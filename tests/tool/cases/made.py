@@ -21,6 +21,7 @@ GOOD = "settings format bf16 fp32 base 0\n"
 NARROW = "settings format bf16 base 0\n"
 ROW = "0*16\n"
 BANKS = "issue 0 ZEROSRC files=ab banks=one\nhand over srca\nhand over srcb\n"
+GONE_10 = "10 is no number that a refusal gives; they are 1 to 9"
 
 
 def read(name, ending):

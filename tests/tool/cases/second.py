@@ -7,7 +7,7 @@ from jobtool.listing import listing
 from . import paper
 from .bits import offending_words, word_job
 from .check import Case, equal
-from .dst import edge_jobs
+from .dst import edge_jobs, short
 from .made import EXAMPLES, NAMES, NARROW, answer_of, assembled, multiply_job, read
 
 
@@ -30,11 +30,11 @@ def examples(second):
 def edges(second):
     for text, answer in edge_jobs():
         printed = prints(second, "run", "-", given=assembled(text))
-        yield equal(f"{text[:60]!r}.. prints {answer}", answer_in(printed), answer)
+        yield equal(f"{short(text)} prints {answer}", answer_in(printed), answer)
         width = 4 if text.startswith(NARROW) else 8
         values = [value for line in printed.splitlines()[1:] for value in line.split()[2:]]
         other = [value for value in values if len(value) != width]
-        yield equal(f"{text[:60]!r}.. prints {width} digits", other, [])
+        yield equal(f"{short(text)} prints {width} digits", other, [])
 
 
 def multiplies(second):

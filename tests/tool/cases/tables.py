@@ -41,7 +41,7 @@ def instructions():
 
 
 def refusals():
-    yield equal("the numbers of refusals", list(BY_NUMBER), list(range(1, 11)))
+    yield equal("the numbers of refusals", list(BY_NUMBER), list(range(1, 10)))
 
 
 GROUPS = (sizes, tags, instructions, refusals)

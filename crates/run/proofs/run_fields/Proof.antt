@@ -1,11 +1,12 @@
 -- `run::run_fields` meets its contract. Assumes nothing.
 use Rattle.run.proofs.Performs.{written-by}
-use Rattle.run.proofs.Running.{Running, running-first, running-end, turn-on, read-stop, perform-stop, perform-on}
-use Rattle.run.specs.Perform.{performed, controlOn, stepVerdict}
+use Rattle.run.proofs.Running.{Running, running-first, running-end, turn-on, issue-on}
+use Rattle.run.specs.Perform.{performed}
 use Rattle.walk.proofs.Advanced.{advanced}
 use Rattle.walk.specs.FieldRecord.{fieldControl}
 use borrow.Author.Tests.{not-false}
 use Rattle.rules.proofs.ByCore.{leaves}
+use Rattle.rules.proofs.Reading.{acting-is}
 use Rattle.job.proofs.Halves.{settled-on, start-on}
 use Rattle.job.proofs.Walk.{next-after}
 use Rattle.job.specs.Settings.{choicesIn}
@@ -32,7 +33,7 @@ start-core-requires : tie.Need-start-core-requires Inv-loop μ-loop
 start-core-requires c κs = search needs
 
 loop-holds : tie.Need-loop-holds Inv-loop μ-loop
-loop-holds c = running-first _ _ _ (sizes _ (c .before .before .before .before .before .before .pre)) (start-on (c .start-core .ensures))
+loop-holds c = running-first _ _ _ (sizes _ (c .before .before .before .before .before .before .pre .0)) (c .before .before .before .before .before .before .pre .1) (start-on (c .start-core .ensures))
 
 field-at-requires : tie.Need-field-at-requires Inv-loop μ-loop
 field-at-requires c κs = search needs
@@ -55,54 +56,14 @@ enum-known-kind c = search needs
 read-word-requires : tie.Need-read-word-requires Inv-loop μ-loop
 read-word-requires c κs = search needs
 
-enum-known-read : tie.Need-enum-known-read Inv-loop μ-loop
-enum-known-read c = search needs
+acting-operands-requires : tie.Need-acting-operands-requires Inv-loop μ-loop
+acting-operands-requires c κs = search needs
 
-enum-told-2 : tie.Need-enum-told-2 Inv-loop μ-loop
-enum-told-2 c = search needs
-
-same-length : tie.Need-same-length Inv-loop μ-loop
-same-length c = (c .before .before .before .before .before .before .before .before .loop .inv .size .srca) ∙ sym (sizes _ (c .before .before .before .before .before .before .before .before .before .before .before .before .before .before .before .pre) .srca)
-
-same-length-2 : tie.Need-same-length-2 Inv-loop μ-loop
-same-length-2 c = (c .before .before .before .before .before .before .before .before .loop .inv .size .srcb) ∙ sym (sizes _ (c .before .before .before .before .before .before .before .before .before .before .before .before .before .before .before .pre) .srcb)
-
-same-length-3 : tie.Need-same-length-3 Inv-loop μ-loop
-same-length-3 c = (c .before .before .before .before .before .before .before .before .loop .inv .size .dst) ∙ sym (sizes _ (c .before .before .before .before .before .before .before .before .before .before .before .before .before .before .before .pre) .dst)
-
-same-length-4 : tie.Need-same-length-4 Inv-loop μ-loop
-same-length-4 c = (c .before .before .before .before .before .before .before .before .loop .inv .size .registers) ∙ sym (sizes _ (c .before .before .before .before .before .before .before .before .before .before .before .before .before .before .before .pre) .registers)
-
-returns : tie.Need-returns Inv-loop μ-loop
-returns c = read-stop _ _ _ _ _ _ (c .before .before .before .before .before .before .before .before .loop .inv) _ (c .before .before .before .before .before .before .before .loop-test .taken) (c .before .before .before .before .before .before .field-at .ensures .0) _ _ (c .before .before .before .before .kind .given .1) _ (c .before .before .read-word .ensures .0) _ (c .enum-told2 .given .1)
-
-perform-requires : tie.Need-perform-requires Inv-loop μ-loop
-perform-requires c κs = search needs
-
-enum-told-3 : tie.Need-enum-told-3 Inv-loop μ-loop
-enum-told-3 c = search needs
-
-enum-told-4 : tie.Need-enum-told-4 Inv-loop μ-loop
-enum-told-4 c = search needs
-
-same-length-5 : tie.Need-same-length-5 Inv-loop μ-loop
-same-length-5 c = (c .before .before .before .before .before .before .before .before .before .before .perform .kept) .1 .1 .1 .0 ∙ (c .before .before .before .before .before .before .before .before .before .before .before .before .before .before .before .before .before .before .before .before .before .before .before .before .loop .inv .size .srca) ∙ sym (sizes _ (c .before .before .before .before .before .before .before .before .before .before .before .before .before .before .before .before .before .before .before .before .before .before .before .before .before .before .before .before .before .before .before .pre) .srca)
-
-same-length-6 : tie.Need-same-length-6 Inv-loop μ-loop
-same-length-6 c = (c .before .before .before .before .before .before .before .before .before .before .perform .kept) .1 .1 .1 .1 .0 ∙ (c .before .before .before .before .before .before .before .before .before .before .before .before .before .before .before .before .before .before .before .before .before .before .before .before .loop .inv .size .srcb) ∙ sym (sizes _ (c .before .before .before .before .before .before .before .before .before .before .before .before .before .before .before .before .before .before .before .before .before .before .before .before .before .before .before .before .before .before .before .pre) .srcb)
-
-same-length-7 : tie.Need-same-length-7 Inv-loop μ-loop
-same-length-7 c = (c .before .before .before .before .before .before .before .before .before .before .perform .kept) .1 .1 .1 .1 .1 .0 ∙ (c .before .before .before .before .before .before .before .before .before .before .before .before .before .before .before .before .before .before .before .before .before .before .before .before .loop .inv .size .dst) ∙ sym (sizes _ (c .before .before .before .before .before .before .before .before .before .before .before .before .before .before .before .before .before .before .before .before .before .before .before .before .before .before .before .before .before .before .before .pre) .dst)
-
-same-length-8 : tie.Need-same-length-8 Inv-loop μ-loop
-same-length-8 c = (c .before .before .before .before .before .before .before .before .before .before .perform .kept) .1 .1 .1 .1 .1 .1 .0 ∙ (c .before .before .before .before .before .before .before .before .before .before .before .before .before .before .before .before .before .before .before .before .before .before .before .before .loop .inv .size .registers) ∙ sym (sizes _ (c .before .before .before .before .before .before .before .before .before .before .before .before .before .before .before .before .before .before .before .before .before .before .before .before .before .before .before .before .before .before .before .pre) .registers)
-
-returns-2 : tie.Need-returns-2 Inv-loop μ-loop
-returns-2 c = let h = choicesIn (c .before .before .before .before .before .before .before .before .before .before .before .before .before .before .before .before .before .before .before .before .before .before .before .before .loop .fixed) in
-    perform-stop _ _ _ _ _ _ (c .before .before .before .before .before .before .before .before .before .before .before .before .before .before .before .before .before .before .before .before .before .before .before .before .loop .inv) _ (c .before .before .before .before .before .before .before .before .before .before .before .before .before .before .before .before .before .before .before .before .before .before .before .loop-test .taken) (c .before .before .before .before .before .before .before .before .before .before .before .before .before .before .before .before .before .before .before .before .before .before .field-at .ensures .0) _ _ (c .before .before .before .before .before .before .before .before .before .before .before .before .before .before .before .before .before .before .before .before .kind .given .1) _ (c .before .before .before .before .before .before .before .before .before .before .before .before .before .before .before .before .before .before .read-word .ensures .0) _ (c .before .before .before .before .before .before .before .before .before .before .before .before .before .before .before .before .read .given .1) _ ((c .before .before .before .before .before .before .before .before .before .before .perform .ensures .0) h) _ ((c .before .before .before .before .before .before .before .before .before .before .perform .ensures .1 .0) h) _ (c .enum-told4 .given .1)
+act-requires : tie.Need-act-requires Inv-loop μ-loop
+act-requires c κs = search needs
 
 add-count : tie.Need-add-count Inv-loop μ-loop
-add-count c = omega (arith, (c .before .before .before .before .before .before .before .before .before .before .before .before .before .before .before .before .before .before .before .before .before .before .before .before .loop .inv .few), (c .before .before .before .before .before .before .before .before .before .before .before .before .before .before .before .before .before .before .before .before .before .before .before .loop-test .taken), (c .before .before .before .before .before .before .before .before .before .before .before .before .before .before .before .before .before .before .before .before .before .before .before .before .before .before .before .before .before .before .before .good .0))
+add-count c = omega (arith, (c .before .before .before .before .before .before .before .before .before .before .before .before .before .before .before .before .before .before .before .before .loop .inv .few), (c .before .before .before .before .before .before .before .before .before .before .before .before .before .before .before .before .before .before .before .loop-test .taken), (c .before .before .before .before .before .before .before .before .before .before .before .before .before .before .before .before .before .before .before .before .before .before .before .before .before .before .before .good .0))
 
 leaves-record-requires : tie.Need-leaves-record-requires Inv-loop μ-loop
 leaves-record-requires c κs = search needs
@@ -143,77 +104,78 @@ payload-at-requires-2 c κs = search needs
 write-requires : tie.Need-write-requires Inv-loop μ-loop
 write-requires c κs = search needs
 
-enum-told-5 : tie.Need-enum-told-5 Inv-loop μ-loop
-enum-told-5 c = search needs
+enum-told-2 : tie.Need-enum-told-2 Inv-loop μ-loop
+enum-told-2 c = search needs
 
-enum-told-6 : tie.Need-enum-told-6 Inv-loop μ-loop
-enum-told-6 c = search needs
+enum-told-3 : tie.Need-enum-told-3 Inv-loop μ-loop
+enum-told-3 c = search needs
 
 loop-less : tie.Need-loop-less Inv-loop μ-loop
 loop-less c = omega (arith, next-after _ _ _ (c .before .before .before .before .before .before .loop-test .taken) (c .before .before .before .before .before .field-at .ensures .0), (c .before .before .before .before .before .before .loop-test .taken))
 
 loop-again : tie.Need-loop-again Inv-loop μ-loop
-unfolding stepVerdict controlOn fieldControl performed
-loop-again c = turn-on _ _ _ _ _ _ (c .before .before .before .before .before .before .before .loop .inv) _ (c .before .before .before .before .before .before .loop-test .taken) (c .before .before .before .before .before .field-at .ensures .0) _ (c .before .before .before .enum-told .given .1) refl (settled-on (c .before .before .before .before .before .before .before .loop .k) (c .before .before .before .before .before .before .before .loop .fixed) _ (c .before .settle .ensures) (c .settings-bytes .ensures) (c .before .before .payload-at .ensures)) refl (omega arith)
+unfolding fieldControl performed
+loop-again c = turn-on _ _ _ _ _ _ (c .before .before .before .before .before .before .before .loop .inv) _ (c .before .before .before .before .before .before .loop-test .taken) (c .before .before .before .before .before .field-at .ensures .0) _ (c .before .before .before .enum-told .given .1) (settled-on (c .before .before .before .before .before .before .before .loop .k) (c .before .before .before .before .before .before .before .loop .fixed) _ (c .before .settle .ensures) (c .settings-bytes .ensures) (c .before .before .payload-at .ensures)) refl (omega arith)
 
 loop-less-2 : tie.Need-loop-less-2 Inv-loop μ-loop
-loop-less-2 c = omega (arith, next-after _ _ _ (c .before .before .before .before .before .before .before .before .before .before .before .before .before .before .before .before .before .before .before .before .before .before .before .before .before .before .before .before .before .before .before .before .before .loop-test .taken) (c .before .before .before .before .before .before .before .before .before .before .before .before .before .before .before .before .before .before .before .before .before .before .before .before .before .before .before .before .before .before .before .before .field-at .ensures .0), (c .before .before .before .before .before .before .before .before .before .before .before .before .before .before .before .before .before .before .before .before .before .before .before .before .before .before .before .before .before .before .before .before .before .loop-test .taken))
+loop-less-2 c = omega (arith, next-after _ _ _ (c .before .before .before .before .before .before .before .before .before .before .before .before .before .before .before .before .before .before .before .before .before .before .before .before .before .before .before .before .before .loop-test .taken) (c .before .before .before .before .before .before .before .before .before .before .before .before .before .before .before .before .before .before .before .before .before .before .before .before .before .before .before .before .field-at .ensures .0), (c .before .before .before .before .before .before .before .before .before .before .before .before .before .before .before .before .before .before .before .before .before .before .before .before .before .before .before .before .before .loop-test .taken))
 
 loop-again-2 : tie.Need-loop-again-2 Inv-loop μ-loop
-loop-again-2 c = let h = choicesIn (c .before .before .before .before .before .before .before .before .before .before .before .before .before .before .before .before .before .before .before .before .before .before .before .before .before .before .before .before .before .before .before .before .before .before .loop .fixed) in
-    perform-on _ _ _ _ _ _ (c .before .before .before .before .before .before .before .before .before .before .before .before .before .before .before .before .before .before .before .before .before .before .before .before .before .before .before .before .before .before .before .before .before .before .loop .inv) _ (c .before .before .before .before .before .before .before .before .before .before .before .before .before .before .before .before .before .before .before .before .before .before .before .before .before .before .before .before .before .before .before .before .before .loop-test .taken) (c .before .before .before .before .before .before .before .before .before .before .before .before .before .before .before .before .before .before .before .before .before .before .before .before .before .before .before .before .before .before .before .before .field-at .ensures .0) _ _ (c .before .before .before .before .before .before .before .before .before .before .before .before .before .before .before .before .before .before .before .before .before .before .before .before .before .before .before .before .before .before .kind .given .1) _ (c .before .before .before .before .before .before .before .before .before .before .before .before .before .before .before .before .before .before .before .before .before .before .before .before .before .before .before .before .read-word .ensures .0) _ (c .before .before .before .before .before .before .before .before .before .before .before .before .before .before .before .before .before .before .before .before .before .before .before .before .before .before .read .given .1) _ ((c .before .before .before .before .before .before .before .before .before .before .before .before .before .before .before .before .before .before .before .before .perform .ensures .0) h) _ ((c .before .before .before .before .before .before .before .before .before .before .before .before .before .before .before .before .before .before .before .before .perform .ensures .1 .0) h) (c .before .before .before .before .before .before .before .before .before .before .enum-told3 .given .1) _
-    (advanced (c .before .before .before .before .before .before .before .before .before .before .before .before .before .before .before .before .before .before .before .before .before .before .before .before .before .before .before .before .before .before .before .before .before .before .loop .k) (c .before .before .before .before .before .before .before .before .before .before .before .before .before .before .before .before .before .before .before .before .before .before .before .before .before .before .before .before .before .before .before .before .before .before .loop .fixed) (c .before .before .before .before .before .before .before .before .before .before .before .before .before .before .before .before .before .before .before .before .before .before .before .before .before .before .before .before .before .before .kind .given .0 .0) (c .before .before .before .before .before .before .before .before .before .before .before .before .before .before .before .before .before .before .before .before .before .before .before .before .before .before .read .given .0 .0)
+loop-again-2 c = let h = choicesIn (c .before .before .before .before .before .before .before .before .before .before .before .before .before .before .before .before .before .before .before .before .before .before .before .before .before .before .before .before .before .before .loop .fixed) in
+    issue-on _ _ _ _ _ _ (c .before .before .before .before .before .before .before .before .before .before .before .before .before .before .before .before .before .before .before .before .before .before .before .before .before .before .before .before .before .before .loop .inv) _ (c .before .before .before .before .before .before .before .before .before .before .before .before .before .before .before .before .before .before .before .before .before .before .before .before .before .before .before .before .before .loop-test .taken) (c .before .before .before .before .before .before .before .before .before .before .before .before .before .before .before .before .before .before .before .before .before .before .before .before .before .before .before .before .field-at .ensures .0) _ _ (c .before .before .before .before .before .before .before .before .before .before .before .before .before .before .before .before .before .before .before .before .before .before .before .before .before .before .kind .given .1) ((c .before .before .before .before .before .before .before .before .before .before .before .before .before .before .before .before .before .before .before .before .before .before .before .acting-operands .ensures .0) ∙ acting-is _ _ (c .before .before .before .before .before .before .before .before .before .before .before .before .before .before .before .before .before .before .before .before .before .before .before .before .read-word .ensures .0)) ((c .before .before .before .before .before .before .before .before .before .before .before .before .before .before .before .before .before .before .act .ensures) h)
+    (advanced (c .before .before .before .before .before .before .before .before .before .before .before .before .before .before .before .before .before .before .before .before .before .before .before .before .before .before .before .before .before .before .loop .k) (c .before .before .before .before .before .before .before .before .before .before .before .before .before .before .before .before .before .before .before .before .before .before .before .before .before .before .before .before .before .before .loop .fixed) (c .before .before .before .before .before .before .before .before .before .before .before .before .before .before .before .before .before .before .before .before .before .before .before .before .before .before .kind .given .0 .0) (c .before .before .before .before .before .before .before .before .before .before .before .before .before .before .before .before .before .before .before .before .before .before .before .acting-operands .result)
     (c .before .before .before .before .before .before .slot-number .ensures) (c .before .before .before .before .before .slot-at .ensures) (c .before .before .before .before .own-at .ensures) (c .before .before .before .own-after .ensures) (c .before .before .clear-by .ensures) (c .before .last-after .ensures) (c .core-with .ensures))
 
 loop-less-3 : tie.Need-loop-less-3 Inv-loop μ-loop
-loop-less-3 c = omega (arith, next-after _ _ _ (c .before .before .before .before .before .before .before .before .before .before .before .before .before .before .before .before .before .before .before .before .before .before .before .before .before .loop-test .taken) (c .before .before .before .before .before .before .before .before .before .before .before .before .before .before .before .before .before .before .before .before .before .before .before .before .field-at .ensures .0), (c .before .before .before .before .before .before .before .before .before .before .before .before .before .before .before .before .before .before .before .before .before .before .before .before .before .loop-test .taken))
+loop-less-3 c = omega (arith, next-after _ _ _ (c .before .before .before .before .before .before .before .before .before .before .before .before .before .before .before .before .before .before .before .before .before .loop-test .taken) (c .before .before .before .before .before .before .before .before .before .before .before .before .before .before .before .before .before .before .before .before .field-at .ensures .0), (c .before .before .before .before .before .before .before .before .before .before .before .before .before .before .before .before .before .before .before .before .before .loop-test .taken))
 
 loop-again-3 : tie.Need-loop-again-3 Inv-loop μ-loop
-loop-again-3 c = let h = choicesIn (c .before .before .before .before .before .before .before .before .before .before .before .before .before .before .before .before .before .before .before .before .before .before .before .before .before .before .loop .fixed) in
-    perform-on _ _ _ _ _ _ (c .before .before .before .before .before .before .before .before .before .before .before .before .before .before .before .before .before .before .before .before .before .before .before .before .before .before .loop .inv) _ (c .before .before .before .before .before .before .before .before .before .before .before .before .before .before .before .before .before .before .before .before .before .before .before .before .before .loop-test .taken) (c .before .before .before .before .before .before .before .before .before .before .before .before .before .before .before .before .before .before .before .before .before .before .before .before .field-at .ensures .0) _ _ (c .before .before .before .before .before .before .before .before .before .before .before .before .before .before .before .before .before .before .before .before .before .before .kind .given .1) _ (c .before .before .before .before .before .before .before .before .before .before .before .before .before .before .before .before .before .before .before .before .read-word .ensures .0) _ (c .before .before .before .before .before .before .before .before .before .before .before .before .before .before .before .before .before .before .read .given .1) _ ((c .before .before .before .before .before .before .before .before .before .before .before .before .perform .ensures .0) h) _ ((c .before .before .before .before .before .before .before .before .before .before .before .before .perform .ensures .1 .0) h) (c .before .before .enum-told3 .given .1) _ (sym (leaves _ _ _ (sym (c .before .leaves-record .ensures) ∙ not-false _ (c .if1 .left))))
+loop-again-3 c = let h = choicesIn (c .before .before .before .before .before .before .before .before .before .before .before .before .before .before .before .before .before .before .before .before .before .before .loop .fixed) in
+    issue-on _ _ _ _ _ _ (c .before .before .before .before .before .before .before .before .before .before .before .before .before .before .before .before .before .before .before .before .before .before .loop .inv) _ (c .before .before .before .before .before .before .before .before .before .before .before .before .before .before .before .before .before .before .before .before .before .loop-test .taken) (c .before .before .before .before .before .before .before .before .before .before .before .before .before .before .before .before .before .before .before .before .field-at .ensures .0) _ _ (c .before .before .before .before .before .before .before .before .before .before .before .before .before .before .before .before .before .before .kind .given .1) ((c .before .before .before .before .before .before .before .before .before .before .before .before .before .before .before .acting-operands .ensures .0) ∙ acting-is _ _ (c .before .before .before .before .before .before .before .before .before .before .before .before .before .before .before .before .read-word .ensures .0)) ((c .before .before .before .before .before .before .before .before .before .before .act .ensures) h)
+    (sym (leaves _ _ _ (sym (c .before .leaves-record .ensures) ∙ not-false _ (c .if1 .left))))
 
 loop-less-4 : tie.Need-loop-less-4 Inv-loop μ-loop
 loop-less-4 c = omega (arith, next-after _ _ _ (c .before .before .before .before .before .loop-test .taken) (c .before .before .before .before .field-at .ensures .0), (c .before .before .before .before .before .loop-test .taken))
 
 loop-again-4 : tie.Need-loop-again-4 Inv-loop μ-loop
-unfolding stepVerdict controlOn fieldControl performed
-loop-again-4 c = turn-on _ _ _ _ _ _ (c .before .before .before .before .before .before .loop .inv) _ (c .before .before .before .before .before .loop-test .taken) (c .before .before .before .before .field-at .ensures .0) _ (c .before .before .kind2 .given .1) refl ((c .hand-over .ensures) (choicesIn (c .before .before .before .before .before .before .loop .fixed))) refl (omega arith)
+unfolding fieldControl performed
+loop-again-4 c = turn-on _ _ _ _ _ _ (c .before .before .before .before .before .before .loop .inv) _ (c .before .before .before .before .before .loop-test .taken) (c .before .before .before .before .field-at .ensures .0) _ (c .before .before .kind2 .given .1) ((c .hand-over .ensures) (choicesIn (c .before .before .before .before .before .before .loop .fixed))) refl (omega arith)
 
 loop-less-5 : tie.Need-loop-less-5 Inv-loop μ-loop
 loop-less-5 c = omega (arith, next-after _ _ _ (c .before .before .before .before .before .before .before .before .before .before .before .before .before .before .before .before .before .before .loop-test .taken) (c .before .before .before .before .before .before .before .before .before .before .before .before .before .before .before .before .before .field-at .ensures .0), (c .before .before .before .before .before .before .before .before .before .before .before .before .before .before .before .before .before .before .loop-test .taken))
 
 loop-again-5 : tie.Need-loop-again-5 Inv-loop μ-loop
-unfolding stepVerdict controlOn fieldControl performed
-loop-again-5 c = turn-on _ _ _ _ _ _ (c .before .before .before .before .before .before .before .before .before .before .before .before .before .before .before .before .before .before .before .loop .inv) _ (c .before .before .before .before .before .before .before .before .before .before .before .before .before .before .before .before .before .before .loop-test .taken) (c .before .before .before .before .before .before .before .before .before .before .before .before .before .before .before .before .before .field-at .ensures .0) _ (c .before .before .before .before .before .before .before .before .before .before .before .before .before .before .before .kind3 .given .1) refl refl (written-by _ _ _ ((c .before .before .before .before .before .before .before .before .write .ensures) (choicesIn (c .before .before .before .before .before .before .before .before .before .before .before .before .before .before .before .before .before .before .before .loop .fixed))) (c .before .before .before .before .before .before .before .before .before .before .before .before .before .payload-at2 .ensures)) (omega arith)
+unfolding fieldControl performed
+loop-again-5 c = turn-on _ _ _ _ _ _ (c .before .before .before .before .before .before .before .before .before .before .before .before .before .before .before .before .before .before .before .loop .inv) _ (c .before .before .before .before .before .before .before .before .before .before .before .before .before .before .before .before .before .before .loop-test .taken) (c .before .before .before .before .before .before .before .before .before .before .before .before .before .before .before .before .before .field-at .ensures .0) _ (c .before .before .before .before .before .before .before .before .before .before .before .before .before .before .before .kind3 .given .1) refl (written-by _ _ _ ((c .before .before .before .before .before .before .before .before .write .ensures) (choicesIn (c .before .before .before .before .before .before .before .before .before .before .before .before .before .before .before .before .before .before .before .loop .fixed))) (c .before .before .before .before .before .before .before .before .before .before .before .before .before .payload-at2 .ensures)) (omega arith)
 
 loop-less-6 : tie.Need-loop-less-6 Inv-loop μ-loop
 loop-less-6 c = omega (arith, next-after _ _ _ (c .before .before .before .loop-test .taken) (c .before .before .field-at .ensures .0), (c .before .before .before .loop-test .taken))
 
 loop-again-6 : tie.Need-loop-again-6 Inv-loop μ-loop
-unfolding stepVerdict controlOn fieldControl performed
-loop-again-6 c = turn-on _ _ _ _ _ _ (c .before .before .before .before .loop .inv) _ (c .before .before .before .loop-test .taken) (c .before .before .field-at .ensures .0) _ (c .enum-told5 .given .1) refl refl refl (omega arith)
+unfolding fieldControl performed
+loop-again-6 c = turn-on _ _ _ _ _ _ (c .before .before .before .before .loop .inv) _ (c .before .before .before .loop-test .taken) (c .before .before .field-at .ensures .0) _ (c .enum-told2 .given .1) refl refl (omega arith)
 
 loop-less-7 : tie.Need-loop-less-7 Inv-loop μ-loop
 loop-less-7 c = omega (arith, next-after _ _ _ (c .before .before .before .loop-test .taken) (c .before .before .field-at .ensures .0), (c .before .before .before .loop-test .taken))
 
 loop-again-7 : tie.Need-loop-again-7 Inv-loop μ-loop
-unfolding stepVerdict controlOn fieldControl performed
-loop-again-7 c = turn-on _ _ _ _ _ _ (c .before .before .before .before .loop .inv) _ (c .before .before .before .loop-test .taken) (c .before .before .field-at .ensures .0) _ (c .enum-told6 .given .1) refl refl refl (omega arith)
+unfolding fieldControl performed
+loop-again-7 c = turn-on _ _ _ _ _ _ (c .before .before .before .before .loop .inv) _ (c .before .before .before .loop-test .taken) (c .before .before .field-at .ensures .0) _ (c .enum-told3 .given .1) refl refl (omega arith)
 
-same-length-9 : tie.Need-same-length-9 Inv-loop μ-loop
-same-length-9 c = (c .before .loop .inv .size .srca) ∙ sym (sizes _ (c .before .before .before .before .before .before .before .before .pre) .srca)
+same-length : tie.Need-same-length Inv-loop μ-loop
+same-length c = (c .before .loop .inv .size .srca) ∙ sym (sizes _ (c .before .before .before .before .before .before .before .before .pre .0) .srca)
 
-same-length-10 : tie.Need-same-length-10 Inv-loop μ-loop
-same-length-10 c = (c .before .loop .inv .size .srcb) ∙ sym (sizes _ (c .before .before .before .before .before .before .before .before .pre) .srcb)
+same-length-2 : tie.Need-same-length-2 Inv-loop μ-loop
+same-length-2 c = (c .before .loop .inv .size .srcb) ∙ sym (sizes _ (c .before .before .before .before .before .before .before .before .pre .0) .srcb)
 
-same-length-11 : tie.Need-same-length-11 Inv-loop μ-loop
-same-length-11 c = (c .before .loop .inv .size .dst) ∙ sym (sizes _ (c .before .before .before .before .before .before .before .before .pre) .dst)
+same-length-3 : tie.Need-same-length-3 Inv-loop μ-loop
+same-length-3 c = (c .before .loop .inv .size .dst) ∙ sym (sizes _ (c .before .before .before .before .before .before .before .before .pre .0) .dst)
 
-same-length-12 : tie.Need-same-length-12 Inv-loop μ-loop
-same-length-12 c = (c .before .loop .inv .size .registers) ∙ sym (sizes _ (c .before .before .before .before .before .before .before .before .pre) .registers)
+same-length-4 : tie.Need-same-length-4 Inv-loop μ-loop
+same-length-4 c = (c .before .loop .inv .size .registers) ∙ sym (sizes _ (c .before .before .before .before .before .before .before .before .pre .0) .registers)
 
-returns-3 : tie.Need-returns-3 Inv-loop μ-loop
-returns-3 c = running-end _ _ _ _ _ _ (c .before .loop .inv) (c .loop-test .left)
+returns : tie.Need-returns Inv-loop μ-loop
+returns c = running-end _ _ _ _ _ _ (c .before .loop .inv) (c .loop-test .left)
 
 pub run-fields-spec : {M : Type 1} → statement M
 run-fields-spec =
@@ -230,21 +192,8 @@ run-fields-spec =
     settings-bytes-requires
     enum-known-kind
     read-word-requires
-    enum-known-read
-    enum-told-2
-    same-length
-    same-length-2
-    same-length-3
-    same-length-4
-    returns
-    perform-requires
-    enum-told-3
-    enum-told-4
-    same-length-5
-    same-length-6
-    same-length-7
-    same-length-8
-    returns-2
+    acting-operands-requires
+    act-requires
     add-count
     leaves-record-requires
     slot-number-requires
@@ -259,8 +208,8 @@ run-fields-spec =
     enum-known-kind-3
     payload-at-requires-2
     write-requires
-    enum-told-5
-    enum-told-6
+    enum-told-2
+    enum-told-3
     loop-less
     loop-again
     loop-less-2
@@ -275,8 +224,8 @@ run-fields-spec =
     loop-again-6
     loop-less-7
     loop-again-7
-    same-length-9
-    same-length-10
-    same-length-11
-    same-length-12
-    returns-3)
+    same-length
+    same-length-2
+    same-length-3
+    same-length-4
+    returns)
