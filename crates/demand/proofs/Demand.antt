@@ -46,7 +46,7 @@ use Rattle.demand.specs.WellShaped.{FirstWrong}
 use Rattle.demand.proofs.Agreement.{Agree, byRow, alone}
 use Rattle.demand.proofs.Widths.{first-width, wide}
 use Rattle.demand.proofs.Modes.{breaks-same, none-breaks-seven}
-use Rattle.demand.proofs.Passed.{counted, all-go, all-done, all-end, steps-on, Ended, ended}
+use Rattle.demand.proofs.Passed.{counted, all-go, all-met, all-done, all-end, steps-on, Ended, ended}
 use Rattle.demand.proofs.Shapes.{well-right, right-well, first-wrong, wrong-first}
 use Rattle.demand.proofs.Tagged.{issues-tagged, halves, bytes}
 use Rattle.demand.proofs.Steps.{sizes-of, lengths-of}
@@ -146,10 +146,8 @@ module _ (job : List ℕ) where
             let x = precheck-passed job n e in all-done job (fieldsFrom job 0) start (unset (jobWidth job)) s 0 n (sound job 0) start-kept (x .1) (sizes-of s l);
         goes = λ n e s l.
             let x = precheck-passed job n e in all-go job (fieldsFrom job 0) start (unset (jobWidth job)) s 0 n (sound job 0) start-kept (x .1) (sizes-of s l);
-        ends = λ n e s l k x a b.
-            let y = precheck-passed job n e in
-            ap (λ (z : Ran). z .state) (run-passed job s (size s l) n e)
-            ∙ all-end job (fieldsFrom job 0) start (unset (jobWidth job)) s 0 n (sound job 0) start-kept (y .1) (sizes-of s l) k x a b;
+        ends = λ n e s l k x a b. ap (λ (z : Ran). z .state) (run-passed job s (size s l) n e) ∙ all-end job (fieldsFrom job 0) start (unset (jobWidth job)) s 0 k x a b;
+        met = λ s. all-met job (fieldsFrom job 0) start (unset (jobWidth job)) s;
         steps = λ s. steps-on job (fieldsFrom job 0) start (unset (jobWidth job)) s;
         issues = issues-tagged job;
         prints = λ n e s t l k. prints n e s t (size s l) (size t k);

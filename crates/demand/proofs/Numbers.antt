@@ -1,12 +1,12 @@
 -- No public function that answers a refusal gives number 10. Assumes nothing.
-use mathlib.Core.Path.{_≡_, refl, ap, _∙_}
-use mathlib.Core.Bool.{Bool, true, false, cond}
+use mathlib.Core.Path.{_≡_, refl, sym, ap, _∙_}
+use mathlib.Core.Bool.{Bool, true, false, cond, not, false≢true}
 use mathlib.Core.List.{List, [], _∷_, map}
 use mathlib.Core.Logic.{_≢_}
 use mathlib.Core.Option.{Option, none, some}
 use Prim.Native.Nat.{ℕ, zero, suc}
 use native.Mathlib.Omega.{arith}
-use borrow.Author.Tests.{eqb-true}
+use borrow.Author.Tests.{eq-eqb, not-true}
 use lib.Dec.{eqb}
 use lib.ListN.{getD}
 use Rattle.cells.specs.State.{State}
@@ -34,13 +34,15 @@ use Rattle.job.specs.declared.Shape.the-variants as shape
 use Rattle.precheck.specs.Check.{precheckAnswer}
 use Rattle.precheck.specs.declared.Checked.{Checked}
 use Rattle.precheck.specs.declared.Checked.the-variants as checked
-use Rattle.run.specs.Run.{ran, runAnswer}
+use Rattle.run.specs.Run.{runAnswer}
 use Rattle.run.proofs.SmallAnswers.{Small, precheck-small, run-small}
 use Rattle.run.specs.declared.Outcome.{Outcome}
 use Rattle.run.specs.declared.Outcome.the-variants as outcome
 use Rattle.lines.specs.Lines.{Line, row, value, linesOf}
 use Rattle.lines.specs.Text.{decimal, decimalUpTo, textOf, finishedText, passedText, refusedText}
-use Rattle.lines.specs.Printed.{line, printedBy, printedText, textsOf, checkedText}
+use Rattle.lines.specs.Printed.{line, printedBy, printedText, checkedText}
+use Rattle.lines.specs.Cursor.{printedFrom, linesAt}
+use Rattle.lines.specs.declared.Cursor.{Cursor}
 use Rattle.demand.specs.Numbers.{NotTen, NotTenText, NoTen}
 
 -- ---- in numbers
@@ -125,7 +127,7 @@ word-other w bit e = go (rowOf w) (ap number e)
 
 -- ---- as texts
 
--- the first byte of a refusal is an `r`, and after `refused 10` comes a 0 where other numbers have a space
+-- the first byte of a refusal is an `r`, and the tenth of `refused 10` a `0`, which no other number of the table has there
 first : (place : ℕ) (bit : Option ℕ) → getD (refusedText 10 place bit) 0 0 ≡ 114
 unfolding refusedText
 first place bit = refl
@@ -140,10 +142,10 @@ by-first x h place bit e = h (ap (λ (l : List ℕ). getD l 0 0) e ∙ first pla
 refused-other : (r : Refusal) (p : ℕ) (b : Option ℕ) → NotTenText (refusedText (numberOf r) p b)
 unfolding refusedText decimal decimalUpTo
 refused-other r p b place bit e =
-    let space : getD (refusedText (numberOf r) p b) 9 0 ≡ 32 =
-    eqb-true _ 32 (one-has (λ n. eqb (getD (refusedText n p b) 9 0) 32) tableNumbers (each-of (map (λ (n : ℕ). eqb (getD (refusedText n p b) 9 0) 32) tableNumbers) refl) (numberOf r) (tabled r)) in
+    let other : eqb (getD (refusedText (numberOf r) p b) 9 0) 48 ≡ false =
+    not-true _ (one-has (λ n. not (eqb (getD (refusedText n p b) 9 0) 48)) tableNumbers (each-of (map (λ (n : ℕ). not (eqb (getD (refusedText n p b) 9 0) 48)) tableNumbers) refl) (numberOf r) (tabled r)) in
     let zero : getD (refusedText (numberOf r) p b) 9 0 ≡ 48 = ap (λ (l : List ℕ). getD l 9 0) e ∙ tenth place bit in
-    omega (arith, space, zero)
+    false≢true (sym other ∙ eq-eqb _ 48 zero)
 
 line-other : (l : Line) → NotTenText (textOf l)
 unfolding textOf
@@ -156,12 +158,18 @@ lines-other [] k = by-first [] (λ e. omega arith)
 lines-other (l ∷ ls) zero = line-other l
 lines-other (l ∷ ls) (suc k) = lines-other ls k
 
-texts-other : (job : List ℕ) (o : Outcome) (s : State) (k : ℕ) → NotTenText (getD (textsOf job (ran o s)) k [])
+printed-other : (job : List ℕ) (o : Outcome) (s : State) (k : ℕ) → NotTenText (getD (map printedText (printedBy job o s)) k [])
 unfolding printedBy printedText finishedText
-texts-other job (outcome.Finished n) s zero = by-first _ (λ e. omega arith)
-texts-other job (outcome.Finished n) s (suc k) = lines-other (linesOf job s) k
-texts-other job (outcome.Refused r place) s zero = refused-other r place (bitOf r)
-texts-other job (outcome.Refused r place) s (suc k) = by-first [] (λ e. omega arith)
+printed-other job (outcome.Finished n) s zero = by-first _ (λ e. omega arith)
+printed-other job (outcome.Finished n) s (suc k) = lines-other (linesOf job s) k
+printed-other job (outcome.Refused r place) s zero = refused-other r place (bitOf r)
+printed-other job (outcome.Refused r place) s (suc k) = by-first [] (λ e. omega arith)
+
+-- from any cursor on
+texts-other : (job : List ℕ) (o : Outcome) (c : Cursor) (s : State) (k : ℕ) → NotTenText (getD (map printedText (printedFrom job o c s)) k [])
+unfolding printedFrom linesAt
+texts-other job (outcome.Finished n) c s k = split (c .answered) (λ t. rw t (lines-other (linesAt job c s) k)) (λ t. rw t (printed-other job (outcome.Finished n) s k))
+texts-other job (outcome.Refused r place) c s k = split (c .answered) (λ t. rw t (by-first [] (λ e. omega arith))) (λ t. rw t (printed-other job (outcome.Refused r place) s k))
 
 checked-text-other : (x : Checked) → NotTenText (checkedText x)
 unfolding checkedText passedText
@@ -172,6 +180,7 @@ pub no-ten : NoTen
 unfolding stepAnswer
 no-ten =
     record {
+      values = λ i. refl;
       tabled = tabled;
       refusal = λ r. tabled-not-ten (numberOf r) (tabled r);
       word = word-other;

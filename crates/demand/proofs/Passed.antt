@@ -1,11 +1,11 @@
 -- A walk of the pre-check that passes: its count, and what the job run then does over two states that agree. Assumes nothing.
 use mathlib.Core.Path.{_≡_, refl, sym, ap, ap₂, subst, _∙_}
 use mathlib.Core.Bool.{true, cond}
-use mathlib.Core.List.{List, [], _∷_, _++_}
+use mathlib.Core.List.{List, [], _∷_, _++_, map}
 use mathlib.Core.Option.{none, some}
-use Prim.Native.Nat.{ℕ, zero, suc, _+_}
+use Prim.Native.Nat.{ℕ, zero, suc, _+_, _<_}
 use native.Mathlib.Omega.{arith}
-use lib.ListN.{getD}
+use lib.ListN.{length, getD}
 use Rattle.cells.specs.declared.Width.{Width}
 use Rattle.control.specs.declared.Control.{Control}
 use Rattle.control.specs.Range.{inRange}
@@ -114,19 +114,13 @@ module _ (job : List ℕ) where
       → (k : ℕ) (x : Meeting) → meetingAt job fs c m s k ≡ some x → Goes x
   unfolding meetingAt
   all-go [] c m s n q w r h z k x e = absurd (let y : _≡_ {A = ℕ} 0 1 = cc in omega arith)
-  all-go (f ∷ fs) c m s n q w r h z k x e =
+  all-go (f ∷ fs) c m s n q w r h z zero x e =
+      let y : record { field = f; control = c; marks = m; state = s } ≡ x = cc in
+      rw (← y) (goes-on f c m s r z (w .0 .range) (check-passed job f fs c m n q h .0))
+  all-go (f ∷ fs) c m s n q w r h z (suc k) x e =
       let y = check-passed job f fs c m n q h in
-      go k (goes-on f c m s r z (w .0 .range) (y .0))
-      (λ k. rw (← control-same c m r s z job (f .place) (f .kind) (w .0 .range) (y .0)) at
-      (all-go fs (fieldControl job c (f .place) (f .kind)) (fieldMarks c m (f .kind)) (performed job c (f .place) (f .kind) s) (n + issueOf (f .kind)) q (w .1)
-      (control-kept job c f r (w .0)) (y .1) (performed-sizes job c (f .place) (f .kind) s z) k x))
-      e
-    where
-      go : (k : ℕ) → Goes (record { field = f; control = c; marks = m; state = s })
-          → ((k : ℕ) → meetingAt job fs (controlOn job c (f .place) (f .kind) s) (fieldMarks c m (f .kind)) (performed job c (f .place) (f .kind) s) k ≡ some x → Goes x)
-          → meetingAt job (f ∷ fs) c m s k ≡ some x → Goes x
-      go zero here later e = let y : record { field = f; control = c; marks = m; state = s } ≡ x = cc in rw (← y) here
-      go (suc k) here later e = later k e
+      all-go fs (fieldControl job c (f .place) (f .kind)) (fieldMarks c m (f .kind)) (performed job c (f .place) (f .kind) s) (n + issueOf (f .kind)) q (w .1)
+      (control-kept job c f r (w .0)) (y .1) (performed-sizes job c (f .place) (f .kind) s z) k x (rw (control-same c m r s z job (f .place) (f .kind) (w .0 .range) (y .0)) at e)
 
   -- so each instruction counts as one that is done
   done-one : (c : Control) (m : Marks) (s : State) → inRange c ≡ true → Sizes s → (k : Kind) → InRange k → lowest (fieldRules c m k) ≡ verdict.Done → doneOf c k s ≡ issueOf k
@@ -148,35 +142,28 @@ module _ (job : List ℕ) where
       rw (control-same c m r s z job (f .place) k (w .0 .range) (y .0), done-one c m s r z k (w .0 .range) (y .0), later) (omega (arith, count-one k 0 (issueFields fs)))
 
   -- where no field is left, the run leaves what it has
-  none-left : (fs : List Field) (b c : Control) (m : Marks) (s : State) (n : ℕ) → meetingAt job fs b m s zero ≡ none → execute job fs c s n .state ≡ s
+  none-left : (fs : List Field) (c : Control) (m : Marks) (s : State) (n : ℕ) → meetingAt job fs c m s zero ≡ none → execute job fs c s n .state ≡ s
   unfolding meetingAt execute
-  none-left [] b c m s n o = refl
-  none-left (f ∷ fs) b c m s n o = absurd (let y : _≡_ {A = ℕ} 0 1 = cc in omega arith)
+  none-left [] c m s n o = refl
+  none-left (f ∷ fs) c m s n o = absurd (let y : _≡_ {A = ℕ} 0 1 = cc in omega arith)
 
   -- what the last field leaves is what the run leaves
-  pub all-end : (fs : List Field) (c : Control) (m : Marks) (s : State) (n q : ℕ) → EachField (Sound job) fs → inRange c ≡ true → checkFrom job fs c m n ≡ Passed q → Sizes s
-      → (k : ℕ) (x : Meeting) → meetingAt job fs c m s k ≡ some x → meetingAt job fs c m s (suc k) ≡ none → execute job fs c s n .state ≡ leaves job x
+  pub all-end : (fs : List Field) (c : Control) (m : Marks) (s : State) (n k : ℕ) (x : Meeting)
+      → meetingAt job fs c m s k ≡ some x → meetingAt job fs c m s (suc k) ≡ none → execute job fs c s n .state ≡ leaves job x
+  unfolding meetingAt execute
+  all-end [] c m s n k x e o = absurd (let y : _≡_ {A = ℕ} 0 1 = cc in omega arith)
+  all-end (f ∷ fs) c m s n zero x e o =
+      let y : record { field = f; control = c; marks = m; state = s } ≡ x = cc in
+      none-left fs _ (fieldMarks c m (f .kind)) (performed job c (f .place) (f .kind) s) _ o ∙ ap (leaves job) y
+  all-end (f ∷ fs) c m s n (suc k) x e o = all-end fs _ _ _ _ k x e o
+
+  -- each field is met
+  pub all-met : (fs : List Field) (c : Control) (m : Marks) (s : State) (k : ℕ) → k < length fs
+      → (x : Meeting) × (meetingAt job fs c m s k ≡ some x) × (x .field .place ≡ getD (map (λ (f : Field). f .place) fs) k 0)
   unfolding meetingAt
-  all-end [] c m s n q w r h z k x e o = absurd (let y : _≡_ {A = ℕ} 0 1 = cc in omega arith)
-  all-end (f ∷ fs) c m s n q w r h z k x e o =
-      let y = check-passed job f fs c m n q h in
-      ap (λ (a : Ran). a .state) (execute-next job f fs c s n)
-      ∙ go k
-      (λ k. rw (← control-same c m r s z job (f .place) (f .kind) (w .0 .range) (y .0)) at
-      (all-end fs (fieldControl job c (f .place) (f .kind)) (fieldMarks c m (f .kind)) (performed job c (f .place) (f .kind) s) (n + issueOf (f .kind)) q (w .1)
-      (control-kept job c f r (w .0)) (y .1) (performed-sizes job c (f .place) (f .kind) s z) k x))
-      e o
-    where
-      go : (k : ℕ)
-          → ((k : ℕ) → meetingAt job fs (controlOn job c (f .place) (f .kind) s) (fieldMarks c m (f .kind)) (performed job c (f .place) (f .kind) s) k ≡ some x
-          → meetingAt job fs (controlOn job c (f .place) (f .kind) s) (fieldMarks c m (f .kind)) (performed job c (f .place) (f .kind) s) (suc k) ≡ none
-          → execute job fs (controlOn job c (f .place) (f .kind) s) (performed job c (f .place) (f .kind) s) (n + issueOf (f .kind)) .state ≡ leaves job x)
-          → meetingAt job (f ∷ fs) c m s k ≡ some x → meetingAt job (f ∷ fs) c m s (suc k) ≡ none
-          → execute job fs (controlOn job c (f .place) (f .kind) s) (performed job c (f .place) (f .kind) s) (n + issueOf (f .kind)) .state ≡ leaves job x
-      go zero later e o =
-          let y : record { field = f; control = c; marks = m; state = s } ≡ x = cc in
-          none-left fs _ _ (fieldMarks c m (f .kind)) (performed job c (f .place) (f .kind) s) _ o ∙ ap (leaves job) y
-      go (suc k) later e o = later k e o
+  all-met [] c m s k l = absurd (omega (arith, l))
+  all-met (f ∷ fs) c m s zero l = (record { field = f; control = c; marks = m; state = s }, refl, refl)
+  all-met (f ∷ fs) c m s (suc k) l = all-met fs _ _ _ k (omega (arith, l))
 
   -- ---- each instruction hands on what its single step gives back
 
@@ -189,19 +176,12 @@ module _ (job : List ℕ) where
       → meetingAt job fs c m s k ≡ some x → meetingAt job fs c m s (suc k) ≡ some y → StepsOn x y
   unfolding meetingAt controlOn performed
   steps-on [] c m s k x y e g = absurd (let z : _≡_ {A = ℕ} 0 1 = cc in omega arith)
-  steps-on (f ∷ fs) c m s k x y e g =
-      go k (steps-on fs (controlOn job c (f .place) (f .kind) s) (fieldMarks c m (f .kind)) (performed job c (f .place) (f .kind) s)) e g
-    where
-      go : (k : ℕ)
-          → ((k : ℕ) (x y : Meeting) → meetingAt job fs (controlOn job c (f .place) (f .kind) s) (fieldMarks c m (f .kind)) (performed job c (f .place) (f .kind) s) k ≡ some x
-          → meetingAt job fs (controlOn job c (f .place) (f .kind) s) (fieldMarks c m (f .kind)) (performed job c (f .place) (f .kind) s) (suc k) ≡ some y → StepsOn x y)
-          → meetingAt job (f ∷ fs) c m s k ≡ some x → meetingAt job (f ∷ fs) c m s (suc k) ≡ some y → StepsOn x y
-      go zero later e g =
-          let q : record { field = f; control = c; marks = m; state = s } ≡ x = cc in
-          let n = first-met fs _ _ _ y g in
-          rw (← q)
-          (record {
-            control = λ t w h. n .0 ∙ ap (λ (z : Kind). controlOn job c (f .place) z s) h;
-            state = λ t w h. n .1 ∙ ap (λ (z : Kind). performed job c (f .place) z s) h;
-          })
-      go (suc k) later e g = later k x y e g
+  steps-on (f ∷ fs) c m s zero x y e g =
+      let q : record { field = f; control = c; marks = m; state = s } ≡ x = cc in
+      let n = first-met fs _ _ _ y g in
+      rw (← q)
+      (record {
+        control = λ t w h. n .0 ∙ ap (λ (z : Kind). controlOn job c (f .place) z s) h;
+        state = λ t w h. n .1 ∙ ap (λ (z : Kind). performed job c (f .place) z s) h;
+      })
+  steps-on (f ∷ fs) c m s (suc k) x y e g = steps-on fs _ _ _ k x y e g

@@ -27,6 +27,7 @@ use Rattle.cells.specs.Tests.{oneOf}
 use Rattle.step.specs.Step.{verdictOf, steppedOf, stateOf, stepAnswer}
 use Rattle.job.specs.Bytes.{le4}
 use Rattle.job.specs.Fields.{payloadAt, jobWidth, fieldsFrom}
+use Rattle.job.specs.declared.Field.{Field}
 use Rattle.job.specs.Settings.{settled}
 use Rattle.job.specs.Values.{OtherValues}
 use Rattle.precheck.specs.Marks.{unset}
@@ -102,6 +103,9 @@ pub record Demand3 (job : List ℕ) : Type 0 where
   pub issues : (w : WellShaped job) → issueFields (fieldsFrom job 0) ≡ tagged 5 (fieldsOf w)
   -- that many single steps are done along the run, each on the record and the lent numbers that the fields before it leave
   pub carried : (n : ℕ) → precheckOf job ≡ checked.Passed n → (s : State) → Lengths s → stepsDone job (fieldsFrom job 0) start s ≡ issueFields (fieldsFrom job 0)
+  -- each field of the job is met, whatever it does
+  pub met : (s : State) (k : ℕ) → k < length (fieldsFrom job 0)
+      → (x : Meeting) × (meeting job s k ≡ some x) × (x .field .place ≡ getD (map (λ (f : Field). f .place) (fieldsFrom job 0)) k 0)
   -- no field and no instruction is refused, from the first to the last, and what the last one leaves is what the run leaves
   pub goes : (n : ℕ) → precheckOf job ≡ checked.Passed n → (s : State) → Lengths s → (k : ℕ) (x : Meeting) → meeting job s k ≡ some x → Goes x
   pub ends : (n : ℕ) → precheckOf job ≡ checked.Passed n → (s : State) → Lengths s
