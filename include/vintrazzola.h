@@ -59,7 +59,9 @@ uint64_t vintrazzola_run(const uint8_t *job, size_t job_length,
    0 or 1, the last SrcA row 0, 16, 32 or 48; settings and slots are as a job's settings field may have them.
 
    From each of these places on, in this order:
-   VINTRAZZOLA_SETTINGS     SrcA format, Fp32 (flag), INT8 (flag), FP16A force (flag), DEST_REGW_BASE
+   VINTRAZZOLA_SETTINGS     SrcA format, Fp32 (flag), INT8 (flag), FP16A force (flag), DEST_REGW_BASE, and the two switches
+                            (flags) by which a clear keeps SrcA's bank and SrcB's: at VINTRAZZOLA_KEEP_A and
+                            VINTRAZZOLA_KEEP_B
    VINTRAZZOLA_BANKS_A      SrcA's banks: matrix unit's pointer, unpackers' pointer, the matrix unit owns bank 0 (flag),
                             bank 1 (flag)
    VINTRAZZOLA_BANKS_B      SrcB's banks, the same
@@ -70,13 +72,15 @@ uint64_t vintrazzola_run(const uint8_t *job, size_t job_length,
                             Dst step, clear (flag), carry (flag), copy (flag); fidelity step, clear (flag) */
 
 /* How many numbers the settings have, the banks of a file, a thread of its own, a slot. */
-#define VINTRAZZOLA_SETTINGS_LENGTH 5
+#define VINTRAZZOLA_SETTINGS_LENGTH 7
 #define VINTRAZZOLA_BANKS_LENGTH 4
 #define VINTRAZZOLA_OWN_LENGTH 10
 #define VINTRAZZOLA_SLOT_LENGTH 12
 
 /* What follows, for three threads of eight slots. */
 #define VINTRAZZOLA_SETTINGS 0
+#define VINTRAZZOLA_KEEP_A (VINTRAZZOLA_SETTINGS + 5)
+#define VINTRAZZOLA_KEEP_B (VINTRAZZOLA_SETTINGS + 6)
 #define VINTRAZZOLA_BANKS_A (VINTRAZZOLA_SETTINGS + VINTRAZZOLA_SETTINGS_LENGTH)
 #define VINTRAZZOLA_BANKS_B (VINTRAZZOLA_BANKS_A + VINTRAZZOLA_BANKS_LENGTH)
 #define VINTRAZZOLA_LAST_ROW (VINTRAZZOLA_BANKS_B + VINTRAZZOLA_BANKS_LENGTH)

@@ -16,7 +16,7 @@ use Rattle.word.specs.declared.Which.{Which}
 use Rattle.control.specs.Counter.{ten, six, add10, add6}
 use Rattle.control.specs.Record.{start, startThread, threadAt, slotUsed, withThread, withBanks, withLast, withCounters}
 use Rattle.control.specs.Range.{srcTests, srcOk, dstTests, dstOk, slotsOk, threadTests, threadOk, threadsOk, banksTests, banksOk, lastOk, rangeTests, inRange}
-use Rattle.control.specs.Change.{otherBank, giveBack, clearBanks, handOver, stepSrc, stepDst, stepPhase, applySlot, moveOn, setSrc, setDst, setCounters, addCounters}
+use Rattle.control.specs.Change.{otherBank, cleared, clearBanks, handOver, stepSrc, stepDst, stepPhase, applySlot, moveOn, setSrc, setDst, setCounters, addCounters}
 use Rattle.control.proofs.Bounds.{tests-of, thread-ok}
 use Rattle.control.proofs.Sums.{wraps, mod6, mod10}
 use Rattle.control.specs.declared.Src.{Src}
@@ -53,9 +53,10 @@ with-banks-kept c a b h f g =
 other-ok : (p : ℕ) → ltb (otherBank p) bankCount ≡ true
 other-ok p = chosen-ok (λ (n : ℕ). ltb n bankCount) (eqb p 0) 1 0 refl refl
 
-given-ok : (b : Banks) → banksOk b ≡ true → banksOk (giveBack b) ≡ true
-unfolding giveBack
-given-ok b h = all-of (banksTests (giveBack b)) (other-ok (b .matrix), each-of (banksTests b) h .1)
+cleared-ok : (b : Banks) (keep : Bool) → banksOk b ≡ true → banksOk (cleared b keep) ≡ true
+unfolding cleared
+cleared-ok b true h = all-of (banksTests (cleared b true)) (other-ok (b .matrix), each-of (banksTests b) h .1)
+cleared-ok b false h = all-of (banksTests (cleared b false)) (other-ok (b .matrix), each-of (banksTests b) h .1)
 
 handed-ok : (b : Banks) → banksOk b ≡ true → banksOk (handOver b) ≡ true
 unfolding handOver
@@ -65,8 +66,8 @@ pub clear-kept : (c : Control) (f : Clear) → inRange c ≡ true → inRange (c
 unfolding clearBanks
 clear-kept c f h =
     with-banks-kept c _ _ h
-    (λ k. chosen-ok banksOk (f .a) (giveBack (c .a)) (c .a) (given-ok (c .a) k) k)
-    (λ k. chosen-ok banksOk (f .b) (giveBack (c .b)) (c .b) (given-ok (c .b) k) k)
+    (λ k. chosen-ok banksOk (f .a) (cleared (c .a) (c .settings .keep .a)) (c .a) (cleared-ok (c .a) (c .settings .keep .a) k) k)
+    (λ k. chosen-ok banksOk (f .b) (cleared (c .b) (c .settings .keep .b)) (c .b) (cleared-ok (c .b) (c .settings .keep .b) k) k)
 
 pub hand-kept-a : (c : Control) → inRange c ≡ true → inRange (withBanks c (handOver (c .a)) (c .b)) ≡ true
 hand-kept-a c h = with-banks-kept c (handOver (c .a)) (c .b) h (handed-ok (c .a)) (λ k. k)

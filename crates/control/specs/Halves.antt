@@ -6,7 +6,7 @@ use Prim.Native.Nat.{ℕ}
 use lib.Dec.{eqb}
 use Rattle.word.specs.declared.Clear.{Clear}
 use Rattle.control.specs.Record.{startThread, start, threadAt}
-use Rattle.control.specs.Change.{giveBack}
+use Rattle.control.specs.Change.{clearedIf}
 use Rattle.control.specs.declared.Slot.{Slot}
 use Rattle.control.specs.declared.Thread.{Thread}
 use Rattle.control.specs.declared.Own.{Own}
@@ -92,8 +92,8 @@ coreWith k t o f last =
       x = d .x;
       y = d .y;
       z = d .z;
-      a = cond (f .a) (giveBack (d .a)) (d .a);
-      b = cond (f .b) (giveBack (d .b)) (d .b);
+      a = clearedIf (d .a) (f .a) (d .settings .keep .a);
+      b = clearedIf (d .b) (f .b) (d .settings .keep .b);
       last = last;
     }
 

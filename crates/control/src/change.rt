@@ -14,7 +14,7 @@ use crate::record::zero_src;
 use word::Which;
 ghost use mathlib.Core.Path.{_≡_};
 ghost use mathlib.Core.Bool.{cond};
-ghost use Rattle.control.specs.Change.{otherBank, ownerSet, giveBack, handOver, stepSrc, stepDst, stepPhase, applySlot, setSrc, setDst, setThread, addThread};
+ghost use Rattle.control.specs.Change.{otherBank, ownerSet, flipped, cleared, clearedIf, handOver, stepSrc, stepDst, stepPhase, applySlot, setSrc, setDst, setThread, addThread};
 ghost use Rattle.control.specs.Halves.{Choice, threadOf};
 
 // ---- clear and hand over
@@ -40,20 +40,30 @@ fn other_bank(bank: u8) -> u8
     0
 }
 
-// The bank at the matrix pointer becomes the unpackers', and the pointer moves to the other bank.
-fn give_back(b: Banks) -> Banks
-    ensures { λ r. ⌜ r ≡ giveBack b ⌝ }
+// The matrix pointer moves to the other bank.
+fn flip(b: Banks) -> Banks
+    ensures { λ r. ⌜ r ≡ flipped b ⌝ }
 {
-    let mut r = owner_set(b, b.matrix, false);
+    let mut r = b;
     r.matrix = other_bank(b.matrix);
     r
 }
 
-pub(crate) fn give_back_if(b: Banks, on: bool) -> Banks
-    ensures { λ r. ⌜ r ≡ cond on (giveBack b) b ⌝ }
+// The bank at the matrix pointer becomes the unpackers', and the pointer moves; with the file's switch on the pointer moves alone.
+fn clear(b: Banks, keep: bool) -> Banks
+    ensures { λ r. ⌜ r ≡ cleared b keep ⌝ }
+{
+    if keep {
+        return flip(b);
+    }
+    flip(owner_set(b, b.matrix, false))
+}
+
+pub(crate) fn clear_if(b: Banks, on: bool, keep: bool) -> Banks
+    ensures { λ r. ⌜ r ≡ clearedIf b on keep ⌝ }
 {
     if on {
-        return give_back(b);
+        return clear(b, keep);
     }
     b
 }

@@ -3,7 +3,7 @@ use crate::Control;
 use crate::Core;
 use crate::Own;
 use crate::Thread;
-use crate::change::give_back_if;
+use crate::change::clear_if;
 use crate::record::start_banks;
 use crate::record::start_settings;
 use crate::record::zero_dst;
@@ -162,8 +162,9 @@ pub fn core_with(k: Core, thread: u8, own: Own, clear: Clear, last: u8) -> Core
     let x = chosen(thread == 0, own, old_x);
     let y = chosen(thread == 1, own, old_y);
     let z = chosen(thread == 2, own, old_z);
-    let a = give_back_if(old_a, clear.a);
-    let b = give_back_if(old_b, clear.b);
+    let keep = settings.keep;
+    let a = clear_if(old_a, clear.a, keep.a);
+    let b = clear_if(old_b, clear.b, keep.b);
     Core {
         settings,
         x,

@@ -5,6 +5,7 @@ use crate::Counter6;
 use crate::Counter10;
 use crate::Dst;
 use crate::DstStep;
+use crate::Keep;
 use crate::PhaseStep;
 use crate::SLOTS;
 use crate::Settings;
@@ -85,12 +86,14 @@ pub fn start_thread() -> Thread
 pub(crate) fn start_settings() -> Settings
     ensures { λ r. ⌜ r ≡ startSettings ⌝ }
 {
+    let keep = Keep { a: false, b: false };
     Settings {
         format: 0,
         fp32: false,
         int8: false,
         fp16a: false,
         base: 0,
+        keep,
     }
 }
 

@@ -3,11 +3,12 @@
 use mathlib.Core.Path.{_≡_, refl, sym, ap, _∙_}
 use mathlib.Core.Bool.{Bool, true, false, cond}
 use mathlib.Core.List.{List, [], _∷_, _++_, append-nil, append-assoc}
-use Prim.Native.Nat.{ℕ, zero, suc, _+_, _/_, _%_, _^_, _≤_, _<_}
+use Prim.Native.Nat.{ℕ, zero, suc, _+_, _*_, _/_, _%_, _^_, _≤_, _<_}
+use native.Mathlib.Nat.{div-div-eq-div-mul, mul-mod-left}
 use native.Mathlib.Omega.{arith}
 use borrow.Author.Tests.{eqb-true, eqb-false, eq-eqb, ne-eqb}
 use lib.Dec.{eqb}
-use lib.ListN.{length, getD, drop, List·getD-append}
+use lib.ListN.{length, getD, drop}
 use lib.Seq.{getD-drop}
 use Rattle.cells.specs.declared.Width.{Width}
 use Rattle.cells.specs.declared.Width.the-variants.{Bits16}
@@ -118,39 +119,36 @@ module _ (job : List ℕ) where
 
   -- ---- the width
 
-  even-small : (d : ℕ) → d < 2 → (d % 2 ≡ 1 → ⊥) → d ≡ 0
-  even-small zero l h = refl
-  even-small (suc zero) l h = absurd (h refl)
-  even-small (suc (suc d)) l h = absurd (omega arith)
+  -- of the flags, Fp32, INT8 and FP16A force are off exactly when bits 0 to 2 are 0
+  even : (n : ℕ) → (n % 2 ≡ 1 → ⊥) → n % 2 ≡ 0
+  even n h = small (n % 2) (omega arith) h
+    where
+      small : (d : ℕ) → d < 2 → (d ≡ 1 → ⊥) → d ≡ 0
+      small zero l h = refl
+      small (suc zero) l h = absurd (h refl)
+      small (suc (suc d)) l h = absurd (omega arith)
 
-  flag-bits : (n : ℕ) → n < 8 → bit n 0 ≡ false → bit n 1 ≡ false → bit n 2 ≡ false → n ≡ 0
-  flag-bits n h a b c =
-      let z = even-small (n / 4) (omega arith) (eqb-false (n / 4 % 2) 1 c) in
-      let y = even-small (n / 2) (omega (arith, z)) (eqb-false (n / 2 % 2) 1 b) in
-      let x = even-small (n / 1) (omega (arith, y)) (eqb-false (n / 1 % 2) 1 a) in
-      omega (arith, x)
+  flag-bits : (n : ℕ) → bit n 0 ≡ false → bit n 1 ≡ false → bit n 2 ≡ false → n % 8 ≡ 0
+  flag-bits n a b c =
+      let x = even (n / 1) (eqb-false (n / 1 % 2) 1 a) in
+      let y = even (n / 2) (eqb-false (n / 2 % 2) 1 b) in
+      let z : n / 2 / 2 % 2 ≡ 0 = ap (λ (q : ℕ). q % 2) (div-div-eq-div-mul n 2 2) ∙ even (n / 4) (eqb-false (n / 4 % 2) 1 c) in
+      let eighths : n ≡ n / 2 / 2 / 2 * 8 = omega (arith, x, y, z) in
+      ap (λ (m : ℕ). m % 8) eighths ∙ mul-mod-left (n / 2 / 2 / 2) 8
 
-  module _ (w : WellShaped job) where
-    -- the settings' payload stands from byte 3 on
-    behind : drop 3 job ≡ w .settings .payload ++ joined (w .acting ++ w .outputs)
-    unfolding joined
-    behind = ap (drop 3) (w .whole)
+  bits-off : (n : ℕ) → n % 8 ≡ 0 → (bit n 0 ≡ false) × (bit n 1 ≡ false) × (bit n 2 ≡ false)
+  bits-off n h =
+      (ne-eqb (n / 1 % 2) 1 (λ (z : n / 1 % 2 ≡ 1). omega (arith, h, z)), ne-eqb (n / 2 % 2) 1 (λ (z : n / 2 % 2 ≡ 1). omega (arith, h, z)), ne-eqb (n / 4 % 2) 1 (λ (z : n / 4 % 2 ≡ 1). omega (arith, h, z)))
 
-    byte-at : (i : ℕ) → i < 160 → getD (drop 3 job) i 0 ≡ getD (w .settings .payload) i 0
-    byte-at i h = rw behind (List·getD-append (w .settings .payload) _ 0 i (omega (arith, w .settles .right .long)))
-
-    few-flags : getD (drop 3 job) 1 0 < 8
-    few-flags = rw (byte-at 1 (omega arith)) (w .settles .right .flags)
-
-  pub halves : WellShaped job → getD job 3 0 ≡ 2 → getD job 4 0 ≡ 0 → jobWidth job ≡ Bits16
+  pub halves : WellShaped job → getD job 3 0 ≡ 2 → getD job 4 0 % 8 ≡ 0 → jobWidth job ≡ Bits16
   unfolding jobWidth
   halves w f g =
       let a : getD (drop 3 job) 0 0 ≡ 2 = getD-drop 3 job 0 0 ∙ f in
-      let b : getD (drop 3 job) 1 0 ≡ 0 = getD-drop 3 job 1 0 ∙ g in
-      settings-modes (settingsOf (drop 3 job)) .halves (record { fp32 = rw b; int8 = rw b; fp16a = rw b; format = a })
+      let b = bits-off (getD (drop 3 job) 1 0) (ap (λ (n : ℕ). n % 8) (getD-drop 3 job 1 0) ∙ g) in
+      settings-modes (settingsOf (drop 3 job)) .halves (record { fp32 = b .0; int8 = b .1; fp16a = b .2; format = a })
 
-  pub bytes : WellShaped job → jobWidth job ≡ Bits16 → (getD job 3 0 ≡ 2) × (getD job 4 0 ≡ 0)
+  pub bytes : WellShaped job → jobWidth job ≡ Bits16 → (getD job 3 0 ≡ 2) × (getD job 4 0 % 8 ≡ 0)
   unfolding jobWidth
   bytes w e =
       let m = settings-modes (settingsOf (drop 3 job)) .bf16 e in
-      (sym (getD-drop 3 job 0 0) ∙ m .format, sym (getD-drop 3 job 1 0) ∙ flag-bits (getD (drop 3 job) 1 0) (few-flags w) (m .fp32) (m .int8) (m .fp16a))
+      (sym (getD-drop 3 job 0 0) ∙ m .format, ap (λ (n : ℕ). n % 8) (sym (getD-drop 3 job 1 0)) ∙ flag-bits (getD (drop 3 job) 1 0) (m .fp32) (m .int8) (m .fp16a))

@@ -86,7 +86,7 @@ module _ (p : List ℕ) where
   settings-right h =
       all-of (settingsRightTests p) (
         all-of (settingsTests (settingsOf p)) (upto 13 (h .format), (upto 1023 (h .base), tt)),
-        (lt-ltb (getD p 1 0) 8 (h .flags), (of-below (λ (t : ℕ). threadRight p (threadStart t)) 3 (λ t l. thread-right (4 + 52 * t) (h .threads t l)), tt)),
+        (lt-ltb (getD p 1 0) 32 (h .flags), (of-below (λ (t : ℕ). threadRight p (threadStart t)) 3 (λ t l. thread-right (4 + 52 * t) (h .threads t l)), tt)),
       )
 
   settings-in : length p ≡ 160 → settingsRight p ≡ true → SettingsIn p
@@ -97,7 +97,7 @@ module _ (p : List ℕ) where
       record {
         long = l;
         format = least 13 (s .0);
-        flags = ltb-true (getD p 1 0) 8 (t .1 .0);
+        flags = ltb-true (getD p 1 0) 32 (t .1 .0);
         base = least 1023 (s .1 .0);
         threads = λ k l. thread-in (4 + 52 * k) (below-of (λ (t : ℕ). threadRight p (threadStart t)) 3 (t .1 .1 .0) k l);
       }

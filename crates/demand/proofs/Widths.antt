@@ -62,8 +62,15 @@ module _ (job : List ℕ) where
     settles =
         rw (first, settings-field job (fieldAt job 0) (sound-at job 0 some) first .settles start, place-at job 0) (sym first-width)
 
+    -- no later one is
+    pub opening : fieldsFrom job 0 ≡ fieldAt job 0 ∷ fieldsFrom job (fieldAt job 0 .next)
+    opening = fields-step job 0 some
+
+    pub settled-once : EachField NotSettings (fieldsFrom job (fieldAt job 0 .next))
+    settled-once = once (fieldAt job 0) (fieldsFrom job (fieldAt job 0 .next)) order
+
     pub wide : Wide start (fieldsFrom job 0)
     wide =
         let f = fieldAt job 0 in
-        rw (fields-step job 0 some)
-        (λ i. absurd (false≢true (rw first at i)), stay-wide (fieldsFrom job (f .next)) (fieldControl job start (f .place) (f .kind)) settles (once f (fieldsFrom job (f .next)) order))
+        rw opening
+        (λ i. absurd (false≢true (rw first at i)), stay-wide (fieldsFrom job (f .next)) (fieldControl job start (f .place) (f .kind)) settles settled-once)

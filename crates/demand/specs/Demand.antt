@@ -5,7 +5,7 @@ use mathlib.Core.Bool.{true, false}
 use mathlib.Core.List.{List, [], _∷_, map}
 use mathlib.Core.Logic.{_⊎_, _≢_}
 use mathlib.Core.Option.{Option, none, some}
-use Prim.Native.Nat.{ℕ, suc, _+_, _≤_, _<_}
+use Prim.Native.Nat.{ℕ, suc, _+_, _%_, _^_, _≤_, _<_}
 use lib.Bits.{bitAnd}
 use lib.Dec.{ltb}
 use lib.ListN.{length, getD}
@@ -211,9 +211,9 @@ pub record WordModes (c : Control) (t w : ℕ) : Type 0 where
 
 pub record JobModes (job : List ℕ) : Type 0 where
   -- in a job of right shape, fields go by the width of the record that its settings make: rows are of 16 bits exactly when the settings, whose payload
-  -- begins at byte 3, have format 2 and no flag
-  pub halves : WellShaped job → getD job 3 0 ≡ 2 → getD job 4 0 ≡ 0 → jobWidth job ≡ Bits16
-  pub bytes : WellShaped job → jobWidth job ≡ Bits16 → (getD job 3 0 ≡ 2) × (getD job 4 0 ≡ 0)
+  -- begins at byte 3, have format 2 and of the flags neither Fp32, INT8 nor FP16A force, bits 0 to 2
+  pub halves : WellShaped job → getD job 3 0 ≡ 2 → getD job 4 0 % 2 ^ 3 ≡ 0 → jobWidth job ≡ Bits16
+  pub bytes : WellShaped job → jobWidth job ≡ Bits16 → (getD job 3 0 ≡ 2) × (getD job 4 0 % 2 ^ 3 ≡ 0)
   pub width : WellShaped job → jobWidth job ≡ widthOf (settled start (payloadAt job 0) .settings)
   -- neither the pre-check nor a run over any state refuses a job in the BF16 mode with 7
   pub check : jobWidth job ≡ Bits16 → (r : Refusal) (p : ℕ) → precheckOf job ≡ checked.Refused r p → numberOf r ≢ 7

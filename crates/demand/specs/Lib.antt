@@ -6,3 +6,4 @@ pub mod Offending
 pub mod Meetings
 pub mod Numbers
 pub mod Demand
+pub mod Keeping

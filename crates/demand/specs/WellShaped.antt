@@ -46,11 +46,11 @@ pub record ThreadIn (p : List ℕ) (at : ℕ) : Type 0 where
   pub extra : getD p (at + 3) 0 ≤ 1
   pub slots : (s : ℕ) → s < 8 → SlotIn p (at + 4 + 6 * s)
 
--- 1 settings: SrcA format 0..13, three flags and the rest 0, DEST_REGW_BASE 0..1023, three threads of 52 bytes
+-- 1 settings: SrcA format 0..13, five flags and the rest 0, DEST_REGW_BASE 0..1023, three threads of 52 bytes
 pub record SettingsIn (p : List ℕ) : Type 0 where
   pub long : length p ≡ 160
   pub format : getD p 0 0 ≤ 13
-  pub flags : getD p 1 0 < 2 ^ 3
+  pub flags : getD p 1 0 < 2 ^ 5
   pub base : le2 p 2 ≤ 1023
   pub threads : (t : ℕ) → t < 3 → ThreadIn p (4 + 52 * t)
 

@@ -141,6 +141,7 @@ module _ (n : ℕ → ℕ) where
           int8 = on-of (c .settings .int8) (a 2 refl) j;
           fp16a = on-of (c .settings .fp16a) (a 3 refl) j;
           base = half-of (a 4 refl) (s .1 .0) j;
+          keep = record { a = on-of (c .settings .keep .a) (a 5 refl) j; b = on-of (c .settings .keep .b) (a 6 refl) j };
         };
         threads = table-back (c .threads) startThread _ threadCount (w .threads) (λ t h. thread-back (threadAt c t) _ (w .slots t) (below-of (λ (k : ℕ). threadOk (threadAt c k)) threadCount (e .1 .0) t h) (after t h)) j;
         a = banks-back (c .a) banksA (e .1 .1 .0) (a banksA refl) (a (banksA + 1) refl) (a (banksA + 2) refl) (a (banksA + 3) refl) j;

@@ -20,9 +20,9 @@ flag true = 1
 
 -- ---- what the threads share
 
--- SrcA format, Fp32, INT8, FP16A force, DEST_REGW_BASE
+-- SrcA format, Fp32, INT8, FP16A force, DEST_REGW_BASE, the switches of SrcA and SrcB
 abbrev pub settingsNumbers : Settings → List ℕ
-settingsNumbers s = s .format ∷ flag (s .fp32) ∷ flag (s .int8) ∷ flag (s .fp16a) ∷ s .base ∷ []
+settingsNumbers s = s .format ∷ flag (s .fp32) ∷ flag (s .int8) ∷ flag (s .fp16a) ∷ s .base ∷ flag (s .keep .a) ∷ flag (s .keep .b) ∷ []
 
 -- the matrix unit's pointer, the unpackers' pointer, the matrix unit owns bank 0, bank 1
 abbrev pub banksNumbers : Banks → List ℕ

@@ -6,7 +6,7 @@ use Rattle.control.specs.Record.{slotCount}
 
 -- the settings, a file's banks, a thread's own numbers, a slot
 abbrev pub settingsLength : ℕ
-settingsLength = 5
+settingsLength = 7
 
 abbrev pub banksLength : ℕ
 banksLength = 4

@@ -29,7 +29,15 @@ on x = eqb x 1
 -- ---- the parts, from place b on; n gives the number at a place
 
 abbrev pub settingsFrom : (ℕ → ℕ) → Settings
-settingsFrom n = record { format = byte (n 0); fp32 = on (n 1); int8 = on (n 2); fp16a = on (n 3); base = half (n 4) }
+settingsFrom n =
+    record {
+      format = byte (n 0);
+      fp32 = on (n 1);
+      int8 = on (n 2);
+      fp16a = on (n 3);
+      base = half (n 4);
+      keep = record { a = on (n 5); b = on (n 6) };
+    }
 
 abbrev pub banksFrom : (ℕ → ℕ) → ℕ → Banks
 banksFrom n b = record { matrix = byte (n b); unpack = byte (n (b + 1)); owned0 = on (n (b + 2)); owned1 = on (n (b + 3)) }

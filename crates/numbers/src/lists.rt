@@ -27,6 +27,8 @@ pub(crate) fn shared_numbers(s: Settings, a: Banks, b: Banks, last: u8) -> [u32;
         s.int8 as u32,
         s.fp16a as u32,
         s.base as u32,
+        s.keep.a as u32,
+        s.keep.b as u32,
         a.matrix as u32,
         a.unpack as u32,
         a.owned0 as u32,

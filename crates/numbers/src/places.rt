@@ -3,7 +3,7 @@ use control::SLOTS;
 use control::THREADS;
 
 // The settings, a file's banks, a thread's own numbers, a slot.
-pub(crate) const SETTINGS: usize = 5;
+pub(crate) const SETTINGS: usize = 7;
 
 pub(crate) const BANKS: usize = 4;
 

@@ -17,6 +17,7 @@ use control::Counter6;
 use control::Counter10;
 use control::Dst;
 use control::DstStep;
+use control::Keep;
 use control::PhaseStep;
 use control::SLOTS;
 use control::Settings;
@@ -41,6 +42,10 @@ fn read_settings(n: &[u32]) -> Settings
         int8: n[2] == 1,
         fp16a: n[3] == 1,
         base: (n[4] % 65536) as u16,
+        keep: Keep {
+            a: n[5] == 1,
+            b: n[6] == 1,
+        },
     }
 }
 

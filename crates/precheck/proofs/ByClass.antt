@@ -1,6 +1,6 @@
 -- What the classes of instruction read and mark, each by the rows or registers that it has: a span of none is set, and marks nothing. Assumes nothing.
 use mathlib.Core.Path.{_≡_, refl, sym, ap, _∙_}
-use mathlib.Core.Bool.{Bool, true, false, _&&_, _||_, and-true}
+use mathlib.Core.Bool.{Bool, true, false, not, _&&_, _||_, and-true}
 use mathlib.Core.List.{List}
 use Prim.Native.Nat.{ℕ}
 use native.Mathlib.Nat.{add-zero}
@@ -72,11 +72,12 @@ module _ (m : Marks) where
 -- ---- what is marked
 
 -- by a clear, of one file
-pub given-on : (b : Banks) {on : Bool} → on ≡ true → {x : Span} → x ≡ bankSpan (b .matrix) → (l : List Bool) {a : List Bool} → a ≡ overSpan x false l → a ≡ overSpan (givenBack b on) false l
-given-on b e ex l ea = ea ∙ ap (λ (y : Span). overSpan y false l) (ex ∙ rw e)
+pub given-on : (b : Banks) (on keep : Bool) → on && not keep ≡ true → {x : Span} → x ≡ bankSpan (b .matrix) → (l : List Bool) {a : List Bool}
+    → a ≡ overSpan x false l → a ≡ overSpan (givenBack b on keep) false l
+given-on b on keep e ex l ea = ea ∙ ap (λ (y : Span). overSpan y false l) (ex ∙ rw e)
 
-pub given-off : (b : Banks) {on : Bool} → on ≡ false → (l : List Bool) → l ≡ overSpan (givenBack b on) false l
-given-off b e l = rw e (none-marked false l)
+pub given-off : (b : Banks) (on keep : Bool) → on && not keep ≡ false → (l : List Bool) → l ≡ overSpan (givenBack b on keep) false l
+given-off b on keep e l = rw e (none-marked false l)
 
 module _ (m : Marks) where
   -- by a clear alone

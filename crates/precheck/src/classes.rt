@@ -50,7 +50,8 @@ fn check_multiply(
         let a = k.a;
         let b = k.b;
         let clear = w.fields().clear;
-        unset_cleared(a, b, clear, srca, srcb);
+        let keep = k.settings.keep;
+        unset_cleared(a, b, clear, keep, srca, srcb);
         return Verdict::Done;
     }
     Verdict::Refused(Refusal::UnsetRead)
@@ -67,7 +68,8 @@ fn check_legacy(k: Core, w: LegacyWord, srca: &mut [bool], srcb: &mut [bool]) ->
     let a = k.a;
     let b = k.b;
     let clear = w.fields().clear;
-    unset_cleared(a, b, clear, srca, srcb);
+    let keep = k.settings.keep;
+    unset_cleared(a, b, clear, keep, srca, srcb);
     Verdict::Done
 }
 
@@ -83,7 +85,8 @@ fn check_set(k: Core, w: SetCountersWord, srca: &mut [bool], srcb: &mut [bool]) 
     let a = k.a;
     let b = k.b;
     let clear = x.clear;
-    unset_cleared(a, b, clear, srca, srcb);
+    let keep = k.settings.keep;
+    unset_cleared(a, b, clear, keep, srca, srcb);
     Verdict::Done
 }
 

@@ -9,7 +9,7 @@ use Rattle.word.specs.declared.Operands.{Operands}
 use Rattle.control.specs.declared.Control.{Control}
 use Rattle.control.specs.Record.{threadAt, withLast}
 use Rattle.control.specs.Range.{inRange}
-use Rattle.control.specs.Change.{clearBanks, moveOn, setCounters, addCounters}
+use Rattle.control.specs.Change.{clearedIf, clearBanks, moveOn, setCounters, addCounters}
 use Rattle.control.proofs.StaysInRange.{clear-kept, last-kept, move-kept, set-kept, add-kept}
 use Rattle.rules.specs.Vocabulary.{Move, Stay, Slot, SlotAndLast, Set, Add}
 use Rattle.rules.specs.Multiply.{rowA}
@@ -80,3 +80,19 @@ move-last (Add s) c f t = refl
 pub last-after : (c : Control) (t : ℕ) (f : Operands) → recordAfter c t f .last ≡ lastBy (meaningOf f .move) (rowA c t) (c .last)
 unfolding recordAfter
 last-after c t f = move-last (meaningOf f .move) c (meaningOf f .clear) t
+
+-- ---- the banks after it: a clear alone changes them
+
+move-banks : (m : Move) (c : Control) (t : ℕ) → (moved m c t .a ≡ c .a) × (moved m c t .b ≡ c .b)
+unfolding moveOn setCounters addCounters
+move-banks Stay c t = (refl, refl)
+move-banks (Slot n) c t = (refl, refl)
+move-banks (SlotAndLast n) c t = (refl, refl)
+move-banks (Set s) c t = (refl, refl)
+move-banks (Add s) c t = (refl, refl)
+
+pub banks-after : (c : Control) (t : ℕ) (f : Operands)
+    → (recordAfter c t f .a ≡ clearedIf (c .a) (meaningOf f .clear .a) (c .settings .keep .a))
+    × (recordAfter c t f .b ≡ clearedIf (c .b) (meaningOf f .clear .b) (c .settings .keep .b))
+unfolding recordAfter clearBanks
+banks-after c t f = move-banks (meaningOf f .move) (clearBanks c (meaningOf f .clear)) t

@@ -42,7 +42,7 @@ module _ (k : Core) (s : ℕ → Choice) (t : ℕ) {x : Own} (e : x ≡ ownAt k 
   pub shifted-by : (row : ℕ) → (row + x .b .at .0) % bankRows ≡ (row + threadAt (joined k s) t .b .at .0) % bankRows
   shifted-by row = ap (λ (o : Own). (row + o .b .at .0) % bankRows) (e ∙ sym (own-joined k s t))
 
--- ---- the record after, by its parts: the thread's own numbers, the banks given back, the last SrcA row
+-- ---- the record after, by its parts: the thread's own numbers, the files cleared, the last SrcA row
 
 module _ (k : Core) (s : ℕ → Choice) (t : ℕ) (slot : Slot) (o : Own) where
   -- around a thread that is changed: the clear, and the last row
@@ -75,7 +75,7 @@ module _ (k : Core) (s : ℕ → Choice) (t : ℕ) (slot : Slot) (o : Own) where
   unfolding recordAfter
   after-by f es eo = move-by (meaningOf f .move) (meaningOf f .clear) es eo
 
--- the same of the code's own slot, numbers of the thread before and after it, banks to give back, last row, and core
+-- the same of the code's own slot, numbers of the thread before and after it, files to clear, last row, and core
 pub after-parts : (k : Core) (s : ℕ → Choice) (t : ℕ) (f : Operands) {slot : Slot} → slot ≡ slotUsed (threadAt (joined k s) t) (slotNumber f)
     → {x : Own} → x ≡ ownAt k t → {o : Own} → ((h : Choice) → threadOf o h ≡ threadBy (meaningOf f .move) slot (threadOf x h))
     → {clear : Clear} → clear ≡ meaningOf f .clear → {last : ℕ} → last ≡ lastBy (meaningOf f .move) (countedA x) (k .last)

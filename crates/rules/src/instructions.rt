@@ -60,7 +60,7 @@ pub fn slot_number(f: Operands) -> u32
     }
 }
 
-// ---- the record after it, part by part: a thread's own numbers, the banks that it gives back, the last SrcA row. The control crate puts them together.
+// ---- the record after it, part by part: a thread's own numbers, the files that it clears, the last SrcA row. The control crate puts them together.
 
 // Of its thread, whose own numbers are `x`; `slot` is the one that its number names. The address slots are any.
 pub fn own_after(x: Own, slot: Slot, f: Operands) -> Own
@@ -87,7 +87,7 @@ pub fn own_after(x: Own, slot: Slot, f: Operands) -> Own
     control::apply_slot(x, slot)
 }
 
-// The banks that it gives back.
+// The files that it clears.
 pub fn clear_by(f: Operands) -> Clear
     ensures { λ r. ⌜ r ≡ meaningOf f .clear ⌝ }
 {

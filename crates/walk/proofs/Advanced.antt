@@ -15,7 +15,7 @@ use Rattle.rules.specs.After.{slotNumber, threadBy, lastBy, recordAfter}
 use Rattle.rules.proofs.ByCore.{after-parts}
 use Rattle.job.specs.Settings.{choicesIn}
 
--- n, slot, x, o, clear, last and r are the code's: the slot's number and the slot, the thread's own numbers before and after, the banks given back, the last row, the core
+-- n, slot, x, o, clear, last and r are the code's: the slot's number and the slot, the thread's own numbers before and after, the files cleared, the last row, the core
 pub advanced : (k : Core) (fixed : List ℕ) (t : ℕ) (f : Operands) {n : ℕ} → n ≡ slotNumber f
     → {slot : Slot} → ((k : Core) → slot ≡ slotUsed (threadAt (joined k (choicesIn fixed)) t) n)
     → {x : Own} → x ≡ ownAt k t → {o : Own} → ((h : Choice) → threadOf o h ≡ threadBy (meaningOf f .move) slot (threadOf x h))

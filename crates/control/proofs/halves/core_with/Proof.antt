@@ -12,14 +12,14 @@ chosen-requires-2 c κs = search needs
 chosen-requires-3 : tie.Need-chosen-requires-3
 chosen-requires-3 c κs = search needs
 
-give-back-if-requires : tie.Need-give-back-if-requires
-give-back-if-requires c κs = search needs
+clear-if-requires : tie.Need-clear-if-requires
+clear-if-requires c κs = search needs
 
-give-back-if-requires-2 : tie.Need-give-back-if-requires-2
-give-back-if-requires-2 c κs = search needs
+clear-if-requires-2 : tie.Need-clear-if-requires-2
+clear-if-requires-2 c κs = search needs
 
 returns : tie.Need-returns
-returns c = simp ((c .give-back-if2 .ensures), (c .before .give-back-if .ensures), (c .before .before .chosen3 .ensures), (c .before .before .before .chosen2 .ensures), (c .before .before .before .before .chosen .ensures))
+returns c = simp ((c .clear-if2 .ensures), (c .before .clear-if .ensures), (c .before .before .before .chosen3 .ensures), (c .before .before .before .before .chosen2 .ensures), (c .before .before .before .before .before .chosen .ensures))
 
 pub core-with-spec : {M : Type 1} → statement M
 core-with-spec =
@@ -28,6 +28,6 @@ core-with-spec =
     chosen-requires
     chosen-requires-2
     chosen-requires-3
-    give-back-if-requires
-    give-back-if-requires-2
+    clear-if-requires
+    clear-if-requires-2
     returns)

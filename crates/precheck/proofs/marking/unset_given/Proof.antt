@@ -14,10 +14,12 @@ same-length : tie.Need-same-length
 same-length c = search needs
 
 returns : tie.Need-returns
-returns c = given-on (c .before .before .before .before .before .before .before .args .b) (c .before .before .before .before .before .if1 .taken) (c .before .before .before .before .bank-span .ensures) _ (c .before .before .mark-span .ensures)
+returns c =
+    let args = c .before .before .before .before .before .before .before .args in
+    given-on (args .b) (args .on) (args .keep) (c .before .before .before .before .before .if1 .taken) (c .before .before .before .before .bank-span .ensures) _ (c .before .before .mark-span .ensures)
 
 returns-2 : tie.Need-returns-2
-returns-2 c = given-off (c .before .before .args .b) (c .if1 .left) _
+returns-2 c = given-off (c .before .before .args .b) (c .before .before .args .on) (c .before .before .args .keep) (c .if1 .left) _
 
 pub unset-given-spec : {M : Type 1} → statement M
 unset-given-spec =
