@@ -4,13 +4,13 @@
 
 use crate::engine::{
     change_record, rules, Control, Owner, Refusal, Slot, State, Thread, A, B, DST_CARRY, DST_CLEAR,
-    DST_COPY, DST_COUNTS, FIDELITY_CLEAR, FORMATS, FP16A, FP32, INT8, PHASES, SLOTS, SRC_CARRY,
-    SRC_CLEAR, SRC_COUNTS, SRC_ROWS, THREADS,
+    DST_COPY, DST_COUNTS, FIDELITY_CLEAR, FORMATS, FP16A, FP32, INT8, KEEP, PHASES, SLOTS,
+    SRC_CARRY, SRC_CLEAR, SRC_COUNTS, SRC_ROWS, THREADS,
 };
 use crate::run_tuned::tuned_numbers;
 
 /// Numbers before the threads', of a thread before its slots', of a slot, of a thread, and all.
-const HEAD: usize = 14;
+const HEAD: usize = 16;
 const OWN: usize = 10;
 const SLOT: usize = 12;
 const THREAD: usize = OWN + SLOTS * SLOT;
@@ -121,13 +121,20 @@ fn read(n: &[u32]) -> Option<Control> {
     }
     let mut control = Control {
         format: byte(n[0], FORMATS)?,
-        flags: flag(n[1], FP32)? | flag(n[2], INT8)? | flag(n[3], FP16A)?,
+        flags: flag(n[1], FP32)?
+            | flag(n[2], INT8)?
+            | flag(n[3], FP16A)?
+            | flag(n[5], KEEP[A])?
+            | flag(n[6], KEEP[B])?,
         base: pair(n[4], DST_COUNTS)?,
         threads: [Thread::default(); THREADS],
-        matrix: [byte(n[5], 2)?, byte(n[9], 2)?],
-        unpackers: [byte(n[6], 2)?, byte(n[10], 2)?],
-        owner: [[owner(n[7])?, owner(n[8])?], [owner(n[11])?, owner(n[12])?]],
-        last: last_row(n[13])?,
+        matrix: [byte(n[7], 2)?, byte(n[11], 2)?],
+        unpackers: [byte(n[8], 2)?, byte(n[12], 2)?],
+        owner: [
+            [owner(n[9])?, owner(n[10])?],
+            [owner(n[13])?, owner(n[14])?],
+        ],
+        last: last_row(n[15])?,
     };
     for (t, thread) in control.threads.iter_mut().enumerate() {
         *thread = read_thread(&n[HEAD + t * THREAD..][..THREAD])?;
@@ -154,6 +161,8 @@ pub fn write_but_slots(control: &Control, n: &mut [u32]) {
         flag(INT8),
         flag(FP16A),
         control.base.into(),
+        flag(KEEP[A]),
+        flag(KEEP[B]),
         control.matrix[A].into(),
         control.unpackers[A].into(),
         of_matrix(A, 0),

@@ -1,5 +1,5 @@
-/* The C interface as a caller in C meets it: include/vintrazzola.h, the paper's register job, single steps, and the bit
-   beside a refusal 3.
+/* The C interface as a caller in C meets it: include/vintrazzola.h, the paper's register job, single steps, the bit
+   beside a refusal 3, and the switches that keep a bank.
    tests/compare/run builds it and runs it with the job's path. */
 #include <stdio.h>
 #include <string.h>
@@ -38,6 +38,13 @@ static void refused(const char *what, uint32_t word, uint32_t number, uint32_t b
     expect(what, vintrazzola_place(answer), 0);
     expect(what, vintrazzola_bit(answer), bit);
     expect(what, answer, (uint64_t)1 << 63 | (uint64_t)bit << 40 | (uint64_t)number << 32);
+}
+
+/* A file's banks: the matrix unit's pointer, and whether it owns bank 0 and bank 1. */
+static void banks(const char *what, uint32_t at, uint32_t pointer, uint32_t first, uint32_t second) {
+    expect(what, record[at], pointer);
+    expect(what, record[at + 2], first);
+    expect(what, record[at + 3], second);
 }
 
 int main(int argc, char **argv) {
@@ -119,6 +126,33 @@ int main(int argc, char **argv) {
     refused("an unknown opcode with all bits", 0xFFFFFFFF, 2, 0);
     expect("no such thread before an unnamed bit", step(3, 0x21800000), VINTRAZZOLA_REFUSAL_BIT + VINTRAZZOLA_NUMBER_UNIT);
     expect("all that FLUSHDMA names", step(0, 0x4600000F), 0);
+
+    /* with SrcA's switch on, a SETRWC that clears both keeps SrcA's bank 0 and gives SrcB's back */
+    record[VINTRAZZOLA_KEEP_A] = 1;
+    record[VINTRAZZOLA_BANKS_A + 2] = record[VINTRAZZOLA_BANKS_B + 2] = 1;
+    expect("a SETRWC that clears", step(0, 0x37C00000), 0);
+    banks("SrcA, kept", VINTRAZZOLA_BANKS_A, 1, 1, 0);
+    banks("SrcB, given back", VINTRAZZOLA_BANKS_B, 1, 0, 0);
+    expect("SrcA's switch stays", record[VINTRAZZOLA_KEEP_A], 1);
+    expect("SrcB's switch stays", record[VINTRAZZOLA_KEEP_B], 0);
+
+    /* with SrcB's on, and from the banks 1, the other way round */
+    record[VINTRAZZOLA_KEEP_A] = 0;
+    record[VINTRAZZOLA_KEEP_B] = 1;
+    record[VINTRAZZOLA_BANKS_A + 3] = record[VINTRAZZOLA_BANKS_B + 3] = 1;
+    expect("a SETRWC that clears", step(1, 0x37C00000), 0);
+    banks("SrcA, given back", VINTRAZZOLA_BANKS_A, 0, 1, 0);
+    banks("SrcB, kept", VINTRAZZOLA_BANKS_B, 0, 0, 1);
+
+    /* a switch is 0 or 1 */
+    for (int file = 0; file < 2; file++) {
+        uint32_t *keep = record + (file ? VINTRAZZOLA_KEEP_B : VINTRAZZOLA_KEEP_A), is = *keep;
+        *keep = 2;
+        refused("no switch", 0x37C00000, 1, 0);
+        *keep = is;
+    }
+    banks("SrcA as it was", VINTRAZZOLA_BANKS_A, 0, 1, 0);
+    expect("a record again", step(0, 0x21000000), 0);
 
     printf("%d passed, %d failed\n", passed, failed);
     return failed > 0;

@@ -3,7 +3,8 @@
 use super::lent::{difference, missize};
 use super::{given, proved, Refusals};
 use crate::engine::{
-    lines, precheck, run, shape, width_of, Answer, Refusal, State, Width, JOB_BYTES,
+    lines, precheck, run, shape, width_of, Answer, Field, Refusal, State, Width, A, B, JOB_BYTES,
+    KEEP,
 };
 use crate::generate::numbers::state;
 use crate::generate::rng::Rng;
@@ -19,6 +20,8 @@ pub struct Tally {
     over_long: u64,
     /// With 16-bit Dst rows: all of them, and the passing ones.
     halves: [u64; 2],
+    /// The same with a switch that keeps a bank.
+    switched: [u64; 2],
 }
 
 impl Tally {
@@ -31,6 +34,10 @@ impl Tally {
         println!(
             "{} jobs with 16-bit Dst rows, {} of them passed",
             self.halves[0], self.halves[1]
+        );
+        println!(
+            "{} jobs with a switch that keeps a bank, {} of them passed",
+            self.switched[0], self.switched[1]
         );
         println!(
             "{} jobs over 8,192 bytes, {} runs on slices of a wrong length",
@@ -51,6 +58,17 @@ fn same(what: &str, numbers: &[u8], got: u64, expected: &Answer) -> Result<(), S
     }
 }
 
+/// Has a job 16-bit Dst rows, and has it a switch?
+fn kinds(job: &[u8]) -> [bool; 2] {
+    let fields = shape(job).0;
+    let flags = match fields.first() {
+        Some((_, Field::Settings(payload))) => payload[1],
+        _ => 0,
+    };
+    let switched = flags & (KEEP[A] | KEEP[B]) != 0;
+    [width_of(&fields) == Width::Bits16, switched]
+}
+
 /// The first thing in which the two differ over one job, or nothing.
 pub fn compare(rng: &mut Rng, tally: &mut Tally) -> Result<(), String> {
     let bytes = job(rng);
@@ -60,8 +78,9 @@ pub fn compare(rng: &mut Rng, tally: &mut Tally) -> Result<(), String> {
     let reloaded = proved::precheck(&reload(rng, &bytes));
     same("pre-check of other values", numbers, reloaded, &expected)?;
     tally.over_long += u64::from(bytes.len() > JOB_BYTES);
-    let halves = u64::from(width_of(&shape(&bytes).0) == Width::Bits16);
+    let [halves, switched] = kinds(&bytes).map(u64::from);
     tally.halves[0] += halves;
+    tally.switched[0] += switched;
 
     match expected {
         Answer::Refused { refusal, .. } => {
@@ -84,6 +103,7 @@ pub fn compare(rng: &mut Rng, tally: &mut Tally) -> Result<(), String> {
             }
             tally.passing += 1;
             tally.halves[1] += halves;
+            tally.switched[1] += switched;
             tally.issued += count;
             tally.lines += printed[0].len() as u64;
         }

@@ -1,8 +1,8 @@
 //! A single step's record as numbers, in the order of include/vintrazzola.h.
 
 use crate::engine::{
-    Control, Owner, Slot, Thread, A, B, DST_CARRY, DST_CLEAR, DST_COPY, FIDELITY_CLEAR, FLAGS, SRC,
-    SRC_CARRY, SRC_CLEAR,
+    Control, Owner, Slot, Thread, A, B, DST_CARRY, DST_CLEAR, DST_COPY, FIDELITY_CLEAR, FLAGS,
+    FP16A, FP32, INT8, KEEP, SRC, SRC_CARRY, SRC_CLEAR,
 };
 
 /// Where a number stands in the record.
@@ -81,10 +81,13 @@ fn walk_thread(t: &mut Thread, each: Each) -> Option<()> {
 /// All numbers in their order.
 fn walk(c: &mut Control, each: Each) -> Option<()> {
     each(Place::Byte(&mut c.format))?;
-    for bit in 0..FLAGS.count_ones() {
-        each(Place::Flag(&mut c.flags, 1 << bit))?;
+    for flag in [FP32, INT8, FP16A] {
+        each(Place::Flag(&mut c.flags, flag))?;
     }
     each(Place::Pair(&mut c.base))?;
+    for flag in KEEP {
+        each(Place::Flag(&mut c.flags, flag))?;
+    }
     for file in [A, B] {
         each(Place::Byte(&mut c.matrix[file]))?;
         each(Place::Byte(&mut c.unpackers[file]))?;

@@ -3,7 +3,7 @@
 use super::lent::{difference, missize, resize};
 use super::record::{control, numbers};
 use super::{given, proved, Refusals};
-use crate::engine::{step, Control, Entry, Refusal, State, Width, THREADS};
+use crate::engine::{step, Control, Instruction, Refusal, State, Width, SRC, THREADS};
 use crate::generate::numbers::state;
 use crate::generate::records::record;
 use crate::generate::rng::Rng;
@@ -12,8 +12,9 @@ use crate::generate::words::word;
 #[derive(Default)]
 pub struct Tally {
     done: u64,
-    /// Multiplies into 16-bit Dst rows among them.
+    /// Multiplies into 16-bit Dst rows among them, and clears that keep a bank.
     halves: u64,
+    kept: u64,
     refused: Refusals,
     no_record: u64,
     resized: u64,
@@ -23,8 +24,8 @@ pub struct Tally {
 impl Tally {
     pub fn print(&self, fresh: u64) {
         println!(
-            "{} steps done, {} of them multiplies into 16-bit Dst rows",
-            self.done, self.halves
+            "{} steps done, {} of them multiplies into 16-bit Dst rows, {} clears that keep a bank",
+            self.done, self.halves, self.kept
         );
         self.refused.print("steps");
         println!(
@@ -103,8 +104,12 @@ impl Pair {
         }
         let control = self.control.as_ref().expect("a record, as it is done");
         tally.done += 1;
-        let multiply = Entry::of(word).is_some_and(|entry| entry.class.is_multiply());
-        tally.halves += u64::from(multiply && control.width() == Width::Bits16);
+        let it = Instruction::of(word).expect("a word of the table, as it is done");
+        let halves = it.entry.class.is_multiply() && control.width() == Width::Bits16;
+        tally.halves += u64::from(halves);
+        let mut files = SRC.into_iter();
+        let kept = files.any(|file| it.clears(file) && control.keeps(file));
+        tally.kept += u64::from(kept);
         if numbers(control) != self.numbers {
             return Err("another record after it".to_string());
         }

@@ -3,7 +3,7 @@
 use crate::engine::{
     named, precheck, raw_at, read, row_numbers, settings, shape, width_of, Answer, Class, Control,
     Entry, Field, Name, Refusal, Scalar, Slot, Stands, Tag, Width, A, B, D, FILES, HEADER,
-    JOB_BYTES, ROW_BYTES, SLOT_FLAGS,
+    JOB_BYTES, ROW_BYTES, SLOT_FLAGS, SRC,
 };
 
 /// The name of a defined mode that has one.
@@ -55,9 +55,11 @@ fn slot_text(number: usize, slot: &Slot) -> String {
 fn settings_text(record: &Control) -> Vec<String> {
     let (format, flags, base) = (record.format, record.flags, record.base);
     let bits = record.width().bits();
-    let mut text = vec![format!(
-        "format {format}, flags {flags}, base {base}, {bits}-bit Dst rows"
-    )];
+    let mut head = format!("format {format}, flags {flags}, base {base}, {bits}-bit Dst rows");
+    for file in SRC.into_iter().filter(|&file| record.keeps(file)) {
+        head += &format!(", {} kept", FILES[file]);
+    }
+    let mut text = vec![head];
     for (t, thread) in record.threads.iter().enumerate() {
         let (offset, base, extra) = (thread.offset, thread.fidelity_base, thread.extra);
         text.push(format!(

@@ -5,8 +5,8 @@ use std::ops::Range;
 use crate::engine::{
     datum, row_bytes, settings_bytes, write, Control, Entry, Field, Name, A, B, BF16, BITWOPDMAREG,
     BLOCK, BLOCK_NUMBERS, CLREXPHIST, CMPDMAREG, COLUMNS, CONV3S1, D, DST_ROWS, FLUSHDMA, FP16A,
-    FP32, GATESRCRST, INCRWC, INT8, JOB_BYTES, MANTISSAS, MOST_DST_ROWS, MPOOL3S2, MVMUL, SETRWC,
-    SHIFTDMAREG, SHIFTXA, SHIFTXB, TF32, THREADS, ZEROSRC,
+    FP32, GATESRCRST, INCRWC, INT8, JOB_BYTES, KEEP, MANTISSAS, MOST_DST_ROWS, MPOOL3S2, MVMUL,
+    SETRWC, SHIFTDMAREG, SHIFTXA, SHIFTXB, TF32, THREADS, ZEROSRC,
 };
 
 /// Rows of a multiply.
@@ -309,7 +309,12 @@ fn shift_right() -> u32 {
 /// Then thread 0 moves SHIFTXA's rows to the right and multiplies what is in rows 0 to 15 by SrcB's
 /// row of 1 to 16.
 fn shift_after(loads: &[Written], thread: usize, words: &[u32]) -> Vec<Written> {
-    let mut record = Control::under(TF32, FP32);
+    shift_under(0, loads, thread, words)
+}
+
+/// The same with switches.
+fn shift_under(switches: u8, loads: &[Written], thread: usize, words: &[u32]) -> Vec<Written> {
+    let mut record = Control::under(TF32, FP32 | switches);
     for thread in &mut record.threads {
         thread.slots[NEXT as usize].src_step[A] = BLOCK as u8;
     }
@@ -717,5 +722,206 @@ pub fn left_jobs() -> Vec<Vec<u8>> {
         by_pointers(false),
         by_pointers(true),
     ]);
+    jobs.iter().map(|job| bytes(job)).collect()
+}
+
+// ----------------------------------------------------------------- Banks that a clear keeps
+
+/// Clears by an MVMUL, a CONV3S1 and a SETRWC, with bit 22 for SrcA, bit 23 for SrcB or both.
+const MVMUL_A: u32 = 0x2640_0000;
+const MVMUL_B: u32 = 0x2680_0000;
+const MVMUL_BOTH: u32 = 0x26C0_0000;
+const CONV_BOTH: u32 = 0x22C0_0000;
+pub const CLEAR_A: u32 = 0x3740_0000;
+const CLEAR_B: u32 = 0x3780_0000;
+const CLEAR_BOTH: u32 = 0x37C0_0000;
+/// A SHIFTXA to the right, a SHIFTXB of row 0, a ZEROSRC of SrcA's bank at the unpackers' pointer.
+pub const SHIFT_A: u32 = 0x1700_0002;
+const SHIFT_B: u32 = 0x1800_0000;
+const ZERO_A: u32 = 0x1100_0001;
+
+/// What such a job goes on with.
+#[derive(Debug, Clone, Copy, PartialEq, Eq)]
+pub enum Next {
+    Word(u32),
+    HandOver(usize),
+    /// One row.
+    Load(usize),
+}
+
+fn next(next: &Next) -> Written {
+    match *next {
+        Next::Word(word) => issue(word),
+        Next::HandOver(file) => hand_over(file),
+        Next::Load(file) => load(file, 0, &[0; COLUMNS]),
+    }
+}
+
+/// A job with these switches and both first banks handed over: a multiply adds 1 + 2 in Dst's row 0,
+/// which is put out. The first field given stands at 1726.
+pub fn kept(switches: u8, fields: &[Next]) -> Vec<Written> {
+    let mut job = vec![settings(TF32, FP32 | switches)];
+    job.extend(powers(&[0, 1]));
+    job.push(zero(0, EIGHT));
+    job.extend(fields.iter().map(next));
+    job.push(rows_out(0, 1));
+    job
+}
+
+const THRICE: &str = "41100000";
+const BOTH: u8 = KEEP[A] | KEEP[B];
+
+/// Switches and fields of such a job, its first line, and its number in column 0 where it finishes.
+type Kept = (u8, &'static [Next], &'static str, &'static str);
+pub const KEPT: [Kept; 14] = {
+    use Next::{HandOver, Load, Word};
+    const COME_BACK_A: &[Next] = &[Word(MVMUL_A), Word(CLEAR_A), Word(AT_BASE)];
+    const COME_BACK_B: &[Next] = &[
+        Word(MVMUL_B),
+        Word(CLEAR_B),
+        Word(MVMUL_B),
+        Word(CLEAR_B),
+        Word(AT_BASE),
+    ];
+    const BY_SETRWC: &[Next] = &[Word(CLEAR_BOTH), Word(CLEAR_BOTH), Word(AT_BASE)];
+    const LOAD_AGAIN: &[Next] = &[Word(MVMUL_A), HandOver(A), Load(A)];
+    [
+        // Two clears of SrcA, and a multiply of the same rows.
+        (KEEP[A], COME_BACK_A, "finished 3", TWICE),
+        (0, COME_BACK_A, "refused 6 at 1742", ""),
+        // Four of SrcB: a switch is not used up.
+        (KEEP[B], COME_BACK_B, "finished 5", THRICE),
+        (0, COME_BACK_B, "refused 6 at 1742", ""),
+        // SETRWC alone, and a legacy instruction.
+        (BOTH, BY_SETRWC, "finished 3", ONCE),
+        (0, BY_SETRWC, "refused 6 at 1742", ""),
+        (
+            BOTH,
+            &[Word(CONV_BOTH), Word(CLEAR_BOTH), Word(AT_BASE)],
+            "finished 3",
+            ONCE,
+        ),
+        // Both cleared, one kept: the other file's shift has no bank.
+        (
+            KEEP[A],
+            &[
+                Word(MVMUL_BOTH),
+                Word(CLEAR_BOTH),
+                Word(SHIFT_A),
+                Word(SHIFT_B),
+            ],
+            "refused 6 at 1750",
+            "",
+        ),
+        (
+            KEEP[B],
+            &[
+                Word(MVMUL_BOTH),
+                Word(CLEAR_BOTH),
+                Word(SHIFT_B),
+                Word(SHIFT_A),
+            ],
+            "refused 6 at 1750",
+            "",
+        ),
+        // One clear leads to the other bank, handed over with nothing set.
+        (
+            KEEP[A],
+            &[HandOver(A), Word(MVMUL_A), Word(AT_BASE)],
+            "refused 8 at 1738",
+            "",
+        ),
+        // A load and a hand over that meet a kept bank.
+        (KEEP[A], LOAD_AGAIN, "refused 6 at 1738", ""),
+        (0, LOAD_AGAIN, "finished 1", ONCE),
+        (
+            KEEP[B],
+            &[Word(MVMUL_B), HandOver(B), HandOver(B)],
+            "refused 6 at 1738",
+            "",
+        ),
+        // A ZEROSRC fills the kept bank, as the unpackers' pointer is there: then 0 is added.
+        (
+            KEEP[A],
+            &[
+                HandOver(A),
+                Word(MVMUL_A),
+                Word(ZERO_A),
+                Word(CLEAR_A),
+                Word(AT_BASE),
+            ],
+            "finished 4",
+            ONCE,
+        ),
+    ]
+};
+
+/// Both banks of both files, with 3 and 12 for SrcA's and times 16 for SrcB's second one. Clears go
+/// from pair to pair and back to the first: 3 + 12 + 192 + 48 + 3.
+pub fn all_four_banks(switches: u8) -> Vec<Written> {
+    let mut job = vec![settings(TF32, FP32 | switches)];
+    for (exponents, b) in [([0, 1], 0), ([2, 3], 4)] {
+        let numbers = exponents.map(|exponent| power(false, exponent));
+        job.extend(ready(&column_0(&numbers), &[power(false, b); 2]));
+    }
+    job.push(zero(0, EIGHT));
+    let words = [MVMUL_A, MVMUL_B, MVMUL_A, MVMUL_B, AT_BASE];
+    job.extend(words.map(issue));
+    job.push(rows_out(0, 1));
+    job
+}
+
+/// Two clears between SrcA's load and its hand over.
+pub fn cleared_early(switches: u8) -> Vec<Written> {
+    let [load_a, rest @ ..] = &powers(&[0, 1])[..] else {
+        unreachable!("loads come first");
+    };
+    let mut job = vec![settings(TF32, FP32 | switches), load_a.clone()];
+    job.extend([CLEAR_A, CLEAR_A].map(issue));
+    job.extend_from_slice(rest);
+    job.extend([zero(0, EIGHT), mvmul(0), rows_out(0, 1)]);
+    job
+}
+
+/// A SHIFTXA of rows 16 to 31 in the bank to which a CONV3S1 and a SETRWC led back.
+pub fn shift_in_kept(switches: u8) -> Vec<Written> {
+    let conv = CONV3S1.put(stepping(&CONV3S1), Name::Clear, 1);
+    let loads = [load_a(0..32), hand_over(A)];
+    shift_under(switches, &loads, 0, &[conv, CLEAR_A])
+}
+
+/// 1 + 2 twice into 16-bit row 512, both banks cleared twice in between.
+pub fn kept_in_halves(switches: u8) -> Vec<Written> {
+    let mut job = vec![settings(BF16, switches)];
+    job.extend(powers(&[0, 1]));
+    let clearing = MVMUL_BOTH | DST_ROWS as u32;
+    job.extend([
+        zero(DST_ROWS, EIGHT),
+        issue(clearing),
+        issue(CLEAR_BOTH),
+        mvmul(DST_ROWS),
+        rows_out(DST_ROWS, 1),
+    ]);
+    job
+}
+
+/// The settings' flags, and a register that is loaded and put out.
+pub fn with_flags(flags: u8) -> Vec<Written> {
+    vec![settings(TF32, flags), load_12(1), register_out(1)]
+}
+
+/// The numbers of order 6 as jobs.
+pub fn kept_jobs() -> Vec<Vec<u8>> {
+    let mut jobs = KEPT
+        .map(|(switches, fields, ..)| kept(switches, fields))
+        .to_vec();
+    jobs.extend([
+        all_four_banks(BOTH),
+        cleared_early(KEEP[A]),
+        cleared_early(0),
+        shift_in_kept(KEEP[A]),
+        kept_in_halves(BOTH),
+    ]);
+    jobs.extend([31, 32, 64, 128].map(with_flags));
     jobs.iter().map(|job| bytes(job)).collect()
 }

@@ -17,7 +17,7 @@ pub struct Left {
     /// Its slot's flags, and whether the slot moved SrcA's counter to another row.
     flags: u8,
     moved: bool,
-    gives_back: [bool; 2],
+    cleared: [bool; 2],
     /// How many fields stand after it, and the instructions among them that leave the row as it is
     /// though their own thread is at another one.
     fields: usize,
@@ -35,7 +35,7 @@ impl Left {
             thread,
             flags: t.slots[t.slot(slot)].flags,
             moved: after.a_row(thread) != control.a_row(thread),
-            gives_back: SRC.map(|file| it.clears(file)),
+            cleared: SRC.map(|file| it.clears(file)),
             ..Left::default()
         }
     }
@@ -61,8 +61,8 @@ pub fn tests(left: &Left, thread: usize, other_row: bool, other_answer: bool) ->
         ("its slot steps away", left.moved && !clears && !carries),
         ("its slot carries away", left.moved && !clears && carries),
         ("its slot clears", left.moved && clears),
-        ("it gives SrcA's bank back", left.gives_back[A]),
-        ("it gives SrcB's bank back", left.gives_back[B]),
+        ("it clears SrcA's bank", left.cleared[A]),
+        ("it clears SrcB's bank", left.cleared[B]),
         ("not the last multiply's row", other_row),
         ("answered otherwise from there", other_answer),
     ]

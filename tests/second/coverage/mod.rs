@@ -3,6 +3,7 @@
 mod bits;
 mod data;
 mod issues;
+mod kept;
 mod left;
 mod multiplies;
 mod parts;

@@ -1,6 +1,7 @@
 //! Fields of passing jobs.
 
 use super::issues::{self, Issued};
+use super::kept::{self, Kept};
 use super::left::Trail;
 use super::skipped::Skipped;
 use super::table::{Group, Table, Test};
@@ -28,6 +29,7 @@ pub fn count(table: &mut Table, bytes: &[u8]) {
     table.hit_if(bytes.len() == JOB_BYTES, Group::Size, size_row());
     let (mut control, mut marks) = (Control::start(), Marks::start());
     let (mut trail, mut skipped) = (Trail::default(), Skipped::default());
+    let mut kept = Kept::start();
     let mut state = State::zero();
     let fields = shape(bytes).0;
     let width = width_of(&fields);
@@ -47,6 +49,8 @@ pub fn count(table: &mut Table, bytes: &[u8]) {
         trail.follow(&control, &field);
         skipped.count(table, &control, &field);
         skipped.follow(&control, &field);
+        kept.count(table, &control, &field);
+        kept.follow(&control, &field);
         act(&control, &field, &mut state);
         follow(&mut control, &mut marks, &field);
     }
@@ -99,7 +103,9 @@ fn count_field(table: &mut Table, control: &Control, field: &Field, state: &Stat
     }
     match field {
         Field::Settings(payload) => {
-            table.hit(Group::PassingSettings, mode(&settings(payload)).text());
+            let control = settings(payload);
+            table.hit(Group::PassingSettings, mode(&control).text());
+            kept::count_switches(table, Group::PassingSwitches, &control);
         }
         Field::LoadRows { file, rows, .. } => {
             table.hit_tests(Group::LoadRows, load_tests(rows.len() / ROW_BYTES));

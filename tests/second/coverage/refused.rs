@@ -1,5 +1,6 @@
 //! Refused jobs by what they were refused for.
 
+use super::kept::{self, Kept};
 use super::left::Trail;
 use super::skipped::Skipped;
 use super::table::{Group, Table, Test};
@@ -35,13 +36,16 @@ pub fn count(table: &mut Table, bytes: &[u8], refusal: Refusal, place: usize) {
     table.hit(Group::RefusalNumber, refusal.number());
     let fields = shape(bytes).0;
     if let Some((_, Field::Settings(payload))) = fields.first() {
-        table.hit(Group::RefusedSettings, mode(&settings(payload)).text());
+        let control = settings(payload);
+        table.hit(Group::RefusedSettings, mode(&control).text());
+        kept::count_switches(table, Group::RefusedSwitches, &control);
     }
     if refusal == Refusal::Shape {
         return count_shape(table, bytes, place, &fields);
     }
     let (mut control, mut marks) = (Control::start(), Marks::start());
     let (mut trail, mut skipped) = (Trail::default(), Skipped::default());
+    let mut kept = Kept::start();
     for placed @ (at, field) in &fields {
         if *at == place {
             match refusal {
@@ -52,10 +56,14 @@ pub fn count(table: &mut Table, bytes: &[u8], refusal: Refusal, place: usize) {
                 Refusal::Unset => trail.count(table, &control, &marks, field, false),
                 _ => {}
             }
+            if [Refusal::OtherOwner, Refusal::Unset].contains(&refusal) {
+                kept.count_refused(table, &control, &marks, field, refusal);
+            }
             return count_field(table, &control, &marks, field, refusal);
         }
         trail.follow(&control, field);
         skipped.follow(&control, field);
+        kept.follow(&control, field);
         follow(&mut control, &mut marks, field);
     }
     unreachable!("a refusal names a field");
@@ -100,6 +108,9 @@ fn count_value(table: &mut Table, tag: u8, payload: &[u8], fields: &[Placed]) {
             (Width::Bits16, Some(field)) => table.hit(Group::RightWith32, field.tag().text()),
             _ => {}
         }
+    }
+    if let Some(Field::Settings(payload)) = read(tag, payload) {
+        table.hit_tests(Group::HighFlags, kept::high_flags(payload[1]));
     }
     for range in ranged(width, tag, payload) {
         let (name, value) = (&range.what.under(width), range.value);

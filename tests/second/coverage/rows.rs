@@ -2,11 +2,11 @@
 
 use super::multiplies::{AFTER, BEFORE, DATUM, ROUNDING};
 use super::table::{Group, Table};
-use super::{bits, data, issues, left, parts, passing, refused, skipped, Mode, MULTIPLY};
+use super::{bits, data, issues, kept, left, parts, passing, refused, skipped, Mode, MULTIPLY};
 use crate::engine::{
     Class, Control, Entry, Field, Instruction, Name, Refusal, Scalar, Slot, Tag, Thread, What,
-    Width, A, BANKS, BF16, BITWOPDMAREG, BLOCK, CLREXPHIST, FILES, INCRWC, PHASES, SETRWC, SHIFTXB,
-    SLOTS, SRC, SRC_ROWS, TABLE, TF32, THREADS, ZEROSRC,
+    Width, A, BANKS, BF16, BITWOPDMAREG, BLOCK, CLREXPHIST, CONV3S1, FILES, INCRWC, MVMUL, PHASES,
+    SETRWC, SHIFTXB, SLOTS, SRC, SRC_ROWS, TABLE, TF32, THREADS, ZEROSRC,
 };
 use crate::explain::Reason;
 
@@ -40,6 +40,7 @@ pub fn table() -> Table {
     enter_classes(&mut table);
     enter_left(&mut table);
     enter_skipped(&mut table);
+    enter_kept(&mut table);
     enter_data(&mut table);
     enter_ranges(&mut table);
     table
@@ -202,6 +203,39 @@ fn enter_skipped(table: &mut Table) {
     table.enter(group, multiplies().into_iter().map(skipped::then));
     let kinds = [&SHIFTXB, &SETRWC, &INCRWC].map(skipped::kind);
     table.enter(Group::RefusedByCounter, kinds);
+}
+
+/// Banks that a switch keeps.
+fn enter_kept(table: &mut Table) {
+    for group in [Group::PassingSwitches, Group::RefusedSwitches] {
+        table.enter(group, kept::switches_rows());
+    }
+    let moved = [Tag::LoadRows, Tag::HandOver].map(Tag::text);
+    for file in SRC {
+        let of_file = |name: &str| kept::of_file(name, file);
+        let needing = names(|entry| entry.class.needs(file));
+        let in_kept = [&needing[..], &moved, &[ZEROSRC.name]].concat();
+        table.enter(Group::InKept, in_kept.into_iter().map(of_file));
+        let modes = [Mode::Fp32, Mode::Halves].map(|mode| kept::under_row(mode, file));
+        table.enter(Group::InKept, modes);
+        table.enter(Group::RefusedBySwitch, moved.map(of_file));
+        table.enter(
+            Group::BehindKept,
+            [6, 8].map(|number| kept::behind_row(number, file)),
+        );
+        let clearing = [&MVMUL, &CONV3S1, &SETRWC].map(kept::clearing);
+        table.enter(Group::ClearKept, clearing.map(of_file));
+        table.enter(Group::ClearKept, [of_file(kept::OF_UNPACKERS)]);
+    }
+    let both = kept::both_cleared(&Control::start());
+    table.enter_tests(Group::ClearKept, both);
+    for entry in TABLE.iter().filter(|entry| entry.class.needs_a_bank()) {
+        let reads = entry.class != Class::Legacy;
+        let numbers = [Some(6), reads.then_some(8)].into_iter().flatten();
+        let rows = numbers.map(|number| kept::otherwise_row(entry.name, number));
+        table.enter(Group::DoneBySwitch, rows);
+    }
+    table.enter_tests(Group::HighFlags, kept::high_flags(0));
 }
 
 fn enter_data(table: &mut Table) {

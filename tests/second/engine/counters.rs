@@ -31,8 +31,10 @@ pub fn change_record(control: &mut Control, thread: usize, it: Instruction) {
 fn clear(control: &mut Control, it: Instruction) {
     for file in SRC {
         if it.clears(file) {
-            let bank = control.matrix_bank(file);
-            control.owner[file][bank] = Owner::Unpackers;
+            if !control.keeps(file) {
+                let bank = control.matrix_bank(file);
+                control.owner[file][bank] = Owner::Unpackers;
+            }
             control.matrix[file] = 1 - control.matrix[file];
         }
     }

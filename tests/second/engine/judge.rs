@@ -66,7 +66,7 @@ fn issue_marks(control: &Control, marks: &mut Marks, thread: usize, it: Instruct
     match it.entry.class {
         Class::Multiply { .. } | Class::Legacy | Class::SetRwc => {
             for file in SRC {
-                if it.clears(file) {
+                if it.clears(file) && !control.keeps(file) {
                     marks.src[file][control.matrix_bank(file)].fill(false);
                 }
             }

@@ -12,8 +12,10 @@ pub const TF32: u8 = 6;
 pub const FP32: u8 = 1;
 pub const INT8: u8 = 2;
 pub const FP16A: u8 = 4;
+/// The switches that keep a bank through a clear, by file.
+pub const KEEP: [u8; 2] = [8, 16];
 /// All of them, from bit 0 on without a gap; every other bit is 0.
-pub const FLAGS: u8 = FP32 | INT8 | FP16A;
+pub const FLAGS: u8 = KIND_FLAGS | KEEP[A] | KEEP[B];
 /// Those that, with the format, decide what is modelled.
 pub const KIND_FLAGS: u8 = FP32 | INT8 | FP16A;
 
@@ -182,6 +184,11 @@ impl Control {
 
     pub fn unpackers_have(&self, file: usize) -> bool {
         self.owner[file][self.unpackers_bank(file)] == Owner::Unpackers
+    }
+
+    /// Does a clear keep a file's bank, its owner and its marks, and move the pointer alone?
+    pub fn keeps(&self, file: usize) -> bool {
+        self.flags & KEEP[file] != 0
     }
 
     /// The first SrcA row of a multiply or a legacy instruction; either leaves it as the last one.

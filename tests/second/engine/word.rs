@@ -49,7 +49,7 @@ impl Instruction {
         self.entry.slot.map(|slot| self.get(slot))
     }
 
-    /// Does it give a file's bank back?
+    /// Does it clear a file's bank? The record tells whether the bank is kept.
     pub fn clears(&self, file: usize) -> bool {
         match self.entry.class {
             Class::Multiply { .. } | Class::Legacy | Class::SetRwc => {

@@ -127,9 +127,12 @@ impl Builder<'_> {
         Some(())
     }
 
-    /// Makes the bank at the unpackers' pointer the unpackers'.
+    /// Makes the bank at the unpackers' pointer the unpackers', where no switch keeps it.
     pub fn give_back(&mut self, file: usize) -> Done {
         while !self.control.unpackers_have(file) {
+            if self.control.keeps(file) {
+                return None;
+            }
             self.clear(file)?;
         }
         Some(())
@@ -168,6 +171,13 @@ impl Builder<'_> {
         Some(())
     }
 
+    /// A ZEROSRC that fills a file: both banks, or with 0 the unpackers'.
+    pub fn fill(&mut self, file: usize, both: u32) -> Done {
+        let thread = self.thread();
+        let word = ZEROED[file].put(compose(self.rng, &ZEROSRC), 1);
+        self.issue(thread, ZEROSRC.put(word, Name::BothBanks, both))
+    }
+
     /// Makes the matrix bank owned, with these rows set.
     pub fn ready(&mut self, file: usize, first: usize, count: usize) -> Done {
         let marks = &self.marks.src[file][self.control.matrix_bank(file)];
@@ -175,16 +185,17 @@ impl Builder<'_> {
         if set && self.control.matrix_has(file) && !self.rng.one_in(8) {
             return Some(());
         }
-        let thread = self.thread();
-        let zero = ZEROED[file].put(compose(self.rng, &ZEROSRC), 1);
+        if self.control.keeps(file) && !self.control.unpackers_have(file) {
+            return self.ready_kept(file, first, count);
+        }
         match self.rng.below(16) {
             0 => {
                 self.own(file)?;
-                self.issue(thread, ZEROSRC.put(zero, Name::BothBanks, 1))
+                self.fill(file, 1)
             }
             1 => {
                 self.give_back(file)?;
-                self.issue(thread, ZEROSRC.put(zero, Name::BothBanks, 0))?;
+                self.fill(file, 0)?;
                 self.pass_on(file)
             }
             2 => {

@@ -8,7 +8,7 @@ use crate::engine::{
 };
 
 /// The most rows of SrcB that a multiply takes.
-const EIGHT: usize = 8;
+pub const EIGHT: usize = 8;
 
 /// So many rows from each of two, as the first of all and how many.
 fn span(one: usize, other: usize, count: usize) -> (usize, usize) {
@@ -38,7 +38,7 @@ impl Builder<'_> {
         (0..DST_COUNTS.into()).filter(crosses).collect()
     }
 
-    fn zero_for(&mut self, entry: &Entry, sum: u32) -> Done {
+    pub fn zero_for(&mut self, entry: &Entry, sum: u32) -> Done {
         let rows = entry.class.dst_rows(sum)?;
         let (first, count) = (rows.start, rows.len());
         self.push(&Field::ZeroRows { first, count })

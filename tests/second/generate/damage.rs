@@ -11,7 +11,7 @@ use super::words::{
 };
 use crate::engine::{
     number, raw, rows_of, write, Class, Entry, Field, Instruction, Name, Tag, Width, A, B, BF16, D,
-    DST_ROWS, FIELD_ROWS, FLAGS, FORMATS, FP16A, FP32, HEADER, INT8, ISSUE_HEAD, LOAD_HEAD,
+    DST_ROWS, FIELD_ROWS, FLAGS, FORMATS, FP16A, FP32, HEADER, INT8, ISSUE_HEAD, KEEP, LOAD_HEAD,
     REGISTERS, ROW_BYTES, SETTINGS_BYTES, TF32, THREADS,
 };
 
@@ -63,8 +63,8 @@ pub fn damage(rng: &mut Rng, fields: &mut Vec<Vec<u8>>) {
         file,
         any,
     };
-    match it.rng.below(44) {
-        0..=3 | 24 | 25 | 30 | 31 | 34..=40 => it.breaks_a_word_rule(),
+    match it.rng.below(50) {
+        0..=3 | 24 | 25 | 30 | 31 | 34..=40 | 48 | 49 => it.breaks_a_word_rule(),
         41..=43 => it.turns_unnamed_bits_on(),
         4 | 5 => it.multiplies_unmodelled(),
         6 => it.leaves_out(&[Tag::HandOver]),
@@ -83,6 +83,9 @@ pub fn damage(rng: &mut Rng, fields: &mut Vec<Vec<u8>>) {
         27 | 28 => it.changes_the_width(),
         29 => it.names_the_other_half(),
         32 | 33 => it.leaves_another_row(),
+        // The same fields with a switch the other way, or both; a bit that is no flag.
+        44..=46 => it.turn(FLAGS_AT, &[KEEP[A], KEEP[B], KEEP[A] | KEEP[B]]),
+        47 => it.turn(FLAGS_AT, &[32, 64, 128, 224, 32 | KEEP[A], 128 | KEEP[B]]),
         _ => it.loads_a_whole_file(),
     }
 }
@@ -337,12 +340,17 @@ impl Damage<'_> {
 
     /// The same fields under the other width, or beside both.
     fn changes_the_width(&mut self) {
+        match self.rng.below(3) {
+            0 => self.turn(FORMAT_AT, &[BF16 ^ TF32]),
+            _ => self.turn(FLAGS_AT, &[FP32, FP32, INT8, FP16A]),
+        }
+    }
+
+    /// Turns one choice of bits in a byte of the settings.
+    fn turn(&mut self, at: usize, choices: &[u8]) {
         let settings = self.fields.first_mut();
         if let Some(settings) = settings.filter(|field| field.len() == SETTINGS) {
-            match self.rng.below(3) {
-                0 => settings[FORMAT_AT] ^= BF16 ^ TF32,
-                _ => settings[FLAGS_AT] ^= self.rng.pick(&[FP32, FP32, INT8, FP16A]),
-            }
+            settings[at] ^= self.rng.pick(choices);
         }
     }
 

@@ -10,6 +10,7 @@ mod damage;
 mod edges;
 mod grow;
 mod halfway;
+mod keep;
 mod legacy;
 mod passing;
 mod raw;

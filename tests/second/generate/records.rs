@@ -2,8 +2,9 @@
 
 use super::rng::Rng;
 use crate::engine::{
-    Control, Owner, Slot, BANKS, BF16, BLOCK, DST_CLEAR, DST_COUNTS, DST_ROWS, FIDELITY_CLEAR,
-    FLAGS, FORMATS, FP32, PHASES, SLOTS, SRC, SRC_CLEAR, SRC_COUNTS, SRC_ROWS, TF32, THREADS,
+    Control, Owner, Slot, A, B, BANKS, BF16, BLOCK, DST_CLEAR, DST_COUNTS, DST_ROWS,
+    FIDELITY_CLEAR, FLAGS, FORMATS, FP32, KEEP, KIND_FLAGS, PHASES, SLOTS, SRC, SRC_CLEAR,
+    SRC_COUNTS, SRC_ROWS, TF32, THREADS,
 };
 
 const SLOT_CLEARS: u8 = SRC_CLEAR[0] | SRC_CLEAR[1] | DST_CLEAR | FIDELITY_CLEAR;
@@ -32,26 +33,31 @@ fn slot(rng: &mut Rng) -> Slot {
     }
 }
 
-/// Any flags but Fp32 alone.
-fn other_flags() -> Vec<u8> {
-    (0..=FLAGS).filter(|&flags| flags != FP32).collect()
+/// Any flags of what is modelled but Fp32 alone.
+fn other_kinds() -> Vec<u8> {
+    (0..=KIND_FLAGS).filter(|&kind| kind != FP32).collect()
+}
+
+/// One switch, both or none, which is as often as the others together.
+fn switches(rng: &mut Rng) -> u8 {
+    rng.pick(&[0, 0, 0, KEEP[A], KEEP[B], KEEP[A] | KEEP[B]])
 }
 
 /// The start record with settings in it.
 pub fn settings(rng: &mut Rng) -> Control {
-    let (format, flags) = match rng.below(16) {
+    let (format, kind) = match rng.below(16) {
         0 => (
             rng.under(FORMATS) as u8,
-            rng.below(u32::from(FLAGS) + 1) as u8,
+            rng.below(u32::from(KIND_FLAGS) + 1) as u8,
         ),
         // Not far from the settings that are modelled.
         1 => (rng.under(FORMATS) as u8, rng.pick(&[0, FP32])),
-        2 => (rng.pick(&[BF16, TF32]), rng.pick(&other_flags())),
+        2 => (rng.pick(&[BF16, TF32]), rng.pick(&other_kinds())),
         3..=7 => (rng.pick(&[BF16, TF32]), FP32),
         // 16-bit rows of Dst.
         _ => (BF16, 0),
     };
-    let mut record = Control::under(format, flags);
+    let mut record = Control::under(format, kind | switches(rng));
     let base = rng.under(DST_COUNTS) as u16;
     record.base = rng.pick(&[0, DST_ROWS as u16, base]);
     for thread in &mut record.threads {

@@ -4,8 +4,8 @@ use super::steps::{first_row, product_of, record_of};
 use super::{prints, same, Case, Verdict};
 use crate::bf16;
 use crate::engine::{
-    datum, run, Answer, Name, Refusal, State, Width, BF16, COLUMNS, D, DOTPV, DST_ROWS, FORMATS,
-    FP16A, FP32, GAPOOL, INT8, TF32,
+    datum, run, Answer, Name, Refusal, State, Width, BF16, COLUMNS, D, DOTPV, DST_ROWS, FLAGS,
+    FORMATS, FP16A, FP32, GAPOOL, INT8, TF32,
 };
 use crate::worked::{
     across, both_halves, bytes, ending, four_rows, in_halves, load, mvmul, mvmul_word, one, power,
@@ -294,11 +294,11 @@ fn no_7() -> Verdict {
     Ok(())
 }
 
-/// Under all settings: rows from 512 on, and a zeroing of more than 512, are there for BF16 with no
-/// flag alone; a multiply is refused with 5 unless it is modelled.
+/// Under all settings: rows from 512 on, and a zeroing of more than 512, are there for BF16 with none
+/// of the first three flags alone; a multiply is refused with 5 unless it is modelled.
 fn one_mode_has_halves() -> Verdict {
     for format in 0..FORMATS {
-        for flags in 0..=FP32 | INT8 | FP16A {
+        for flags in 0..=FLAGS {
             let told = |what: String| format!("format {format}, flags {flags}: {what}");
             mode_has_its_rows(format, flags).map_err(told)?;
         }
@@ -307,8 +307,10 @@ fn one_mode_has_halves() -> Verdict {
 }
 
 fn mode_has_its_rows(format: u8, flags: u8) -> Verdict {
-    let halves = format == BF16 && flags == 0;
-    let modelled = halves || flags == FP32 && (format == BF16 || format == TF32);
+    // The switches are bits 3 and 4.
+    let kind = flags % 8;
+    let halves = format == BF16 && kind == 0;
+    let modelled = halves || kind == FP32 && (format == BF16 || format == TF32);
     let job = |fields: &[Written]| prints(&[&[settings(format, flags)], fields].concat());
     let digits = if halves { 4 } else { 8 };
     let number = format!(" {}", "0".repeat(digits));

@@ -200,7 +200,7 @@ fn refused_leaves_none() -> Verdict {
 
 /// Rows 16 to 31 moved to the right: nothing in column 0, in column 1 the sum of (17 + k) times
 /// (1 + k), which is 3672, and then in each column twice the number before it.
-fn shows_rows_16(issued: u64, job: &[Written]) -> Verdict {
+pub fn shows_rows_16(issued: u64, job: &[Written]) -> Verdict {
     let doubled = (0..15).map(|n| format!(" {:08x}", 0x4565_8000 + n * 0x80_0000));
     let row = format!("D 0 00000000{}", doubled.collect::<String>());
     same(prints(job), format!("finished {issued}\n{row}\n"))

@@ -2,6 +2,7 @@
 
 mod bits;
 mod halves;
+mod keep;
 mod legacy;
 mod numbers;
 mod papers;
@@ -40,6 +41,7 @@ pub fn selftest() -> (String, bool) {
         parts::CASES,
         bits::CASES,
         numbers::CASES,
+        keep::CASES,
     ]
     .concat();
     let (mut text, mut failed) = (String::new(), 0);

@@ -177,7 +177,7 @@ fn worked_by_records() -> Verdict {
 }
 
 /// A job's first line and, where it finishes, row 0 with a number in column 0 and zeros.
-fn printed(line: &str, number: &str) -> String {
+pub fn printed(line: &str, number: &str) -> String {
     if number.is_empty() {
         return format!("{line}\n");
     }

@@ -56,6 +56,8 @@ def listing():
     answer = call("explain", EXAMPLES / "refused_8_shift.job", 8, 1224)
     message = b"rows 16 to 31 of bank 0 of SrcA are unset; the last SrcA row is 16, which CONV3S1 left"
     yield has("explain a last SrcA row", answer.stdout, message)
+    answer = call("explain", EXAMPLES / "refused_6_kept.job", 6, 198)
+    yield has("explain a kept bank", answer.stdout, b"; the clear at 190 kept it, as keep=a in the settings says\n")
     answer = call("explain", EXAMPLES / "register.job", 8, 180)
     yield has("a refusal of another file", answer.stdout, b"is it the file that was run?")
 

@@ -5,14 +5,14 @@ from jobtool.refusals import Answer
 
 from . import paper
 from .check import equal, has
-from .made import BANKS, GOOD, NARROW, ROW, answer_of, assembled, multiply_job, raw_load, raw_output, raw_zero
+from .made import BANKS, GOOD, NARROW, NARROW_KEPT, ROW, answer_of, assembled, multiply_job, raw_load, raw_output, raw_zero
 
 BF16_WHEN = "format bf16 with fp32, int8 and fp16a off"
 
 
 def limit_jobs():
     """Texts of jobs at the limits of Dst, with what they answer."""
-    for settings, rows, bits in ((NARROW, 1024, 16), (GOOD, 512, 32), ("settings format tf32\n", 512, 32)):
+    for settings, rows, bits in ((NARROW, 1024, 16), (NARROW_KEPT, 1024, 16), (GOOD, 512, 32), ("settings format tf32\n", 512, 32)):
         row = [0] * 15 + [(1 << bits) - 1]
         for text in (
             raw_load(rows - 1, row) + raw_output(rows - 1, 1),
@@ -77,8 +77,8 @@ def edges():
 
 def multiplies():
     for form in range(14):
-        for flags in range(8):
-            wanted = "finished" if (form, flags) in paper.MODELLED else "refused 5 at 186"
+        for flags in range(32):
+            wanted = "finished" if (form, flags & paper.KIND_FLAGS) in paper.MODELLED else "refused 5 at 186"
             yield equal(f"a multiply in {form} with flags {flags}", answer_of(multiply_job(form, flags)), wanted)
     for row in (512, 1016):
         for form in (paper.BF16, paper.TF32):

@@ -1,4 +1,4 @@
-"""The examples: their texts, their refusals, and what the tiles print."""
+"""The examples: their texts, their refusals, and what the tiles and the kept weights print."""
 
 import struct
 from fractions import Fraction
@@ -102,4 +102,21 @@ def tiles():
     yield equal("both have two Src loads", len(src_loads("tile_bf16")), 2)
 
 
-GROUPS = (texts, refused, tiles)
+def kept_weights():
+    """What keep_weights prints, by the formulas in its text; it and refused_6_kept without their switch."""
+    rows = {}
+    for t in range(4):
+        for i in range(8):
+            rows[16 * t + i] = [digits32(2 * (10 * t + i + j)) for j in range(16)]
+            rows[16 * t + 8 + i] = [digits32(16 * (10 * t + i) + 120)] * 16
+    yield equal("keep_weights doubles and sums", printed_rows("keep_weights"), rows)
+    sizes = [len(load) + 3 for load in src_loads("keep_weights") if load[0] == 0]
+    yield equal("keep_weights loads W and V once", sizes, [1030, 1030])
+    yield equal("keep_weights has 4,396 bytes", len(read("keep_weights", "job")), 4396)
+    for name, answer in (("keep_weights", "refused 6 at 3820"), ("refused_6_kept", "finished")):
+        text = read(name, "txt").decode()
+        without = text.replace("\nsettings format bf16 fp32 keep=a base 0\n", "\nsettings format bf16 fp32 base 0\n")
+        yield equal(f"{name} without its switch", (without != text, answer_of(assembled(without))), (True, answer))
+
+
+GROUPS = (texts, refused, tiles, kept_weights)

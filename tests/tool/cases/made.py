@@ -13,12 +13,15 @@ from . import paper
 ROOT = Path(__file__).resolve().parents[3]
 TOOL = ROOT / "tools" / "job"
 EXAMPLES = ROOT / "examples"
-REFUSED = {**{f"refused_{n}": n for n in range(1, 9)}, "refused_1_bf16": 1, "refused_3_lowest": 3, "refused_8_shift": 8}
-NAMES = ("register", "mvmul", "tile_lofi", "tile_hifi4", "tile_bf16", "tile_fp32", "shift", "legacy_shift", "phases") + tuple(REFUSED)
+REFUSED = {**{f"refused_{n}": n for n in range(1, 9)}, "refused_1_bf16": 1, "refused_3_lowest": 3}
+REFUSED.update(refused_6_kept=6, refused_8_shift=8)
+NAMES = ("register", "mvmul", "tile_lofi", "tile_hifi4", "tile_bf16", "tile_fp32", "shift", "legacy_shift", "phases")
+NAMES += ("keep_weights", *REFUSED)
 SEED = 1
 
 GOOD = "settings format bf16 fp32 base 0\n"
 NARROW = "settings format bf16 base 0\n"
+NARROW_KEPT = "settings format bf16 keep=ab base 0\n"
 ROW = "0*16\n"
 BANKS = "issue 0 ZEROSRC files=ab banks=one\nhand over srca\nhand over srcb\n"
 GONE_10 = "10 is no number that a refusal gives; they are 1 to 9"
@@ -44,12 +47,18 @@ def answer_of(data):
 
 def settings_text(form, flags):
     on = [flag for n, flag in enumerate(paper.FLAGS) if flags >> n & 1]
-    return " ".join(["settings format", paper.FORMATS[form], *on]) + "\n"
+    kept = [letter for letter, bit in paper.SWITCHES.items() if flags >> bit & 1]
+    keep = [f"keep={''.join(kept)}"] if kept else []
+    return " ".join(["settings format", paper.FORMATS[form], *on, *keep]) + "\n"
+
+
+def has_bf16_dst(form, flags):
+    return (form, flags & paper.KIND_FLAGS) == (paper.BF16, 0)
 
 
 def multiply_job(form, flags, row=0):
     """One MVMUL under a format and flags, in rows that are zeroed where they are inside Dst."""
-    rows = 1024 if (form, flags) == (paper.BF16, 0) else 512
+    rows = 1024 if has_bf16_dst(form, flags) else 512
     text = f"zero dst 0 {rows}\nissue 0 MVMUL dst={row}\noutput rows {min(row, rows - 8)} 8\n"
     return assembled(settings_text(form, flags) + BANKS + text)
 

@@ -1,5 +1,5 @@
-"""The sizes, tags and opcodes of document 01 and of order 1, written out again. The tool's tables are held
-against these, and fields are made from these and not from the tool."""
+"""The sizes, tags and opcodes of document 01 and of orders 1 and 6, written out again. The tool's tables are
+held against these, and fields are made from these and not from the tool."""
 
 SETTINGS, LOAD_ROWS, LOAD_REGISTER, HAND_OVER, ISSUE, OUTPUT_ROWS, OUTPUT_REGISTER, ZERO_ROWS = range(1, 9)
 # By tag; load rows have 3 and 64 for each row.
@@ -9,6 +9,9 @@ FILE_DST = 2
 
 FORMATS = ("fp32", "fp16", "bf16", "bfp8", "bfp4", "bfp2", "tf32", "bfp8a", "bfp4a", "bfp2a", "fp8", "int32", "int8", "int16")
 FLAGS = ("fp32", "int8", "fp16a")
+# The switches' bits among the flags, by letter; the flags below them, which alone decide on multiplies and Dst.
+SWITCHES = {"a": 3, "b": 4}
+KIND_FLAGS = 7
 BF16, TF32 = 2, 6
 # Format and flags under which a multiply is modelled; the last has BF16 Dst.
 MODELLED = ((BF16, 1), (TF32, 1), (BF16, 0))

@@ -8,7 +8,8 @@ from . import paper
 from .bits import offending_words, word_job
 from .check import Case, equal
 from .dst import edge_jobs, short
-from .made import EXAMPLES, NAMES, NARROW, answer_of, assembled, multiply_job, read
+from .keep import made_jobs, switch_jobs
+from .made import EXAMPLES, NAMES, NARROW, NARROW_KEPT, answer_of, assembled, has_bf16_dst, multiply_job, read
 
 
 def prints(second, *arguments, given=b""):
@@ -31,7 +32,7 @@ def edges(second):
     for text, answer in edge_jobs():
         printed = prints(second, "run", "-", given=assembled(text))
         yield equal(f"{short(text)} prints {answer}", answer_in(printed), answer)
-        width = 4 if text.startswith(NARROW) else 8
+        width = 4 if text.startswith((NARROW, NARROW_KEPT)) else 8
         values = [value for line in printed.splitlines()[1:] for value in line.split()[2:]]
         other = [value for value in values if len(value) != width]
         yield equal(f"{short(text)} prints {width} digits", other, [])
@@ -39,8 +40,8 @@ def edges(second):
 
 def multiplies(second):
     for form in range(14):
-        for flags in range(8):
-            data = multiply_job(form, flags, 512 if (form, flags) == (paper.BF16, 0) else 0)
+        for flags in range(32):
+            data = multiply_job(form, flags, 512 if has_bf16_dst(form, flags) else 0)
             printed = prints(second, "run", "-", given=data)
             yield equal(f"a multiply in {form} with flags {flags} is run", answer_in(printed), answer_of(data))
 
@@ -51,20 +52,31 @@ def bits(second):
         yield equal(f"{name} is run", prints(second, "run", "-", given=data), f"{answer_of(data)}\n")
 
 
+def switches(second):
+    for name, text, answer in switch_jobs():
+        printed = prints(second, "run", "-", given=assembled(text))
+        yield equal(f"{name} is run", answer_in(printed), answer)
+    for n, data in enumerate(made_jobs()):
+        yield equal(f"made job {n} is run", answer_in(prints(second, "run", "-", given=data)), answer_of(data))
+
+
 def generated(second):
     lines = prints(second, "vectors", "7", "300").splitlines()
-    kinds = set()
+    kinds, keeps = set(), set()
     for n, line in enumerate(lines):
         digits, _, printed = line.replace("|", "\n").partition(" ")
         data = bytes.fromhex(digits)
-        kinds.add((data[3:5] == bytes((paper.BF16, 0)), printed[:9]))
+        kinds.add((len(data) > 4 and has_bf16_dst(data[3], data[4]), printed[:9]))
+        if printed.startswith("finished "):
+            keeps.add("".join(letter for letter, bit in paper.SWITCHES.items() if data[4] >> bit & 1))
         own = answer_of(data)
         yield Case(f"generated job {n}", answer_in(printed) == own and printed.endswith("\n"), own, printed[:30])
         yield equal(f"generated job {n} listed and assembled", assembled(listing(data)), data)
     yield equal("300 generated jobs", len(lines), 300)
     wanted = {(bf16, start) for bf16 in (False, True) for start in ("finished ", "refused 1", "refused 8")}
     yield equal("both kinds of Dst among them", sorted(wanted - kinds), [])
+    yield equal("each choice of switches among those that finish", sorted(keeps), ["", "a", "ab", "b"])
     yield equal("BF16 Dst is never refused 5 or 7", sorted(kinds & {(True, "refused 5"), (True, "refused 7")}), [])
 
 
-GROUPS = (examples, edges, multiplies, bits, generated)
+GROUPS = (examples, edges, multiplies, bits, switches, generated)

@@ -16,6 +16,9 @@ def sizes():
         yield equal(name, getattr(layout, name), size)
     yield equal("formats", layout.FORMATS, paper.FORMATS)
     yield equal("flags", layout.FLAGS, paper.FLAGS)
+    switches = {letter: layout.KEEP.low + n for n, letter in enumerate(layout.KEEP.words)}
+    yield equal("switches", switches, paper.SWITCHES)
+    yield equal("flags that must be 0", list(layout.FLAG_BITS.MUST_BE_0), [5, 6, 7])
 
 
 def tags():
