@@ -15,10 +15,10 @@
     listing           a job file as text
     cli               the commands
 
-The rules are those of document 01 and of orders 1, 3 and 4 of document 02. Where something new goes:
+The rules are those of document 01 and of orders 1, 3, 4, 6 and 8 of document 02. Where something new goes:
 
     an instruction    a row in instructions; for a new kind, a class in effects
     a kind of field   a line in fields, a verb in text, a line in listing; what it needs and does, in rules
     a refusal         a row in refusals, and its rule in the order of rules
-    a settings flag   a name in layout, and what it changes, in rules or record
+    a settings flag   a name or a switch in layout, and what it changes, in rules or record
 """

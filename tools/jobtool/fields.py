@@ -5,7 +5,7 @@ from collections import namedtuple
 from typing import NamedTuple
 
 from .layout import BASE, EXTRA, FIDELITY, FILE, FLAG_BITS, FORMAT, OFFSET, REGISTER, SRC_FILE, THREAD, VALUE
-from .layout import COLUMNS, DST, MOST_ROWS, NO_SETTINGS_FILES, SLOT_PARTS, SLOTS, THREADS
+from .layout import COLUMNS, DST, KEEP, MOST_ROWS, NO_SETTINGS_FILES, SLOT_PARTS, SLOTS, THREADS
 from .layout import files_of, row_counts, slot_name, thread_name, unmodelled
 from .wrong import Wrong, span
 
@@ -131,6 +131,10 @@ class Settings(NamedTuple):
 
     def unmodelled(self):
         return unmodelled(self.format, self.flags)
+
+    def keeps(self):
+        """The files whose banks clears keep, a bit for each."""
+        return KEEP.get(self.flags)
 
 
 class SettingsKind(Kind):

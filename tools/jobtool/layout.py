@@ -2,8 +2,9 @@
 
 from typing import NamedTuple
 
+from .instructions import Bits
 from .ranges import Range, below
-from .wrong import Wrong
+from .wrong import Wrong, bits_span
 
 JOB_LIMIT = 8192
 COLUMNS = 16
@@ -24,9 +25,28 @@ READABLE = {BF16: 7, TF32: 10}
 
 FLAGS = ("fp32", "int8", "fp16a")  # from bit 0
 FP32, INT8, FP16A = 1, 2, 4
+# The flags above these: SrcA's and SrcB's switch, under which a clear keeps the file's bank.
+KEEP = Bits("keep", 4, 3, "ab")
+
+
+class FlagBits:
+    """The flags' byte, of which the bits above the switches must be 0."""
+
+    MUST_BE_0 = range(KEEP.high + 1, 8)
+
+    def check(self, number, where=""):
+        wrong = [bit for bit in self.MUST_BE_0 if number >> bit & 1]
+        if wrong:
+            bits, are = bits_span(wrong), "is" if len(wrong) == 1 else "are"
+            names = ", ".join([*FLAGS, *(f"{KEEP.key}={letter}" for letter in KEEP.words)])
+            why = f"{where}{bits} of the flags, 0x{number:02x}, {are} 1; {bits_span(self.MUST_BE_0)} must be 0"
+            remedy = f"clear {bits} of the flags, the payload's second byte; {bits_span(range(KEEP.high + 1))} are {names}"
+            raise Wrong(why, remedy=remedy)
+        return number
+
 
 FORMAT = below("format", len(FORMATS))
-FLAG_BITS = below("flags", 1 << len(FLAGS))
+FLAG_BITS = FlagBits()
 BASE, OFFSET = below("base", DST_WRAP), below("offset", DST_WRAP)
 FIDELITY, EXTRA = below("fidelity", PHASES), below("extra", 2)
 THREAD, REGISTER, SLOT = below("thread", THREADS), below("register", REGISTERS), below("slot", SLOTS)

@@ -3,17 +3,25 @@
 from . import fields
 from .cells import row_texts
 from .explaining import arrow_lines
-from .instructions import instruction_of
-from .layout import DST, FILES, JOB_LIMIT, slot_name
+from .instructions import CLEAR, instruction_of
+from .layout import DST, FILES, JOB_LIMIT, PROPER, slot_name
 from .refusals import BY_NUMBER
 from .rules import shape_fault
 from .settings import settings_text, slot_text, thread_lines
 from .words import word_text
 
 
+def kept_note(verb, settings, cleared):
+    """Of the files that are cleared, a bit for each: whose banks a clear keeps under the settings."""
+    names = [f"{name}'s" for file, name in enumerate(PROPER) if (settings.keeps() & cleared) >> file & 1]
+    return f", {verb} {' and '.join(names)} {'bank' if len(names) == 1 else 'banks'}" if names else ""
+
+
 def settings_note(piece):
     note = f", {piece.value.files()[DST].name}"
-    return note + ", multiplies are not modelled" if piece.value.unmodelled() else note
+    if piece.value.unmodelled():
+        note += ", multiplies are not modelled"
+    return note + kept_note("clears keep", piece.value, CLEAR.most())
 
 
 def load_note(piece):
@@ -38,7 +46,7 @@ def register_text(value):
 
 
 def issue_note(piece):
-    """What a word's text does not say by itself: the word, the slot's effect, why it is bare."""
+    """What a word's text does not say by itself: the word, the effects of slot and clear, why it is bare."""
     word, instruction = piece.value.word, instruction_of(piece.value.word)
     if instruction is None:
         return ", unknown opcode"
@@ -55,7 +63,7 @@ def issue_note(piece):
         number = thread.slot_number(numbers["slot"])
         effect = slot_text(thread.slots[number])
         note += f", {slot_name(piece.value.thread, number)}: {effect}" if effect else ""
-    return note
+    return note + kept_note("clear keeps", piece.settings, numbers.get("clear", 0)) if piece.settings else note
 
 
 # The line of each kind of field; what its comment says beside the offset; the lines below it.

@@ -3,11 +3,12 @@ it leave. Whether a job runs is for the job program to say; these rules find the
 
 from . import fields, refusals
 from .effects import issued_by
-from .instructions import CLEAR, OPCODE_LOW
-from .layout import DST, FILES, JOB_LIMIT
-from .record import Record
+from .instructions import OPCODE_LOW
+from .layout import DST, FILES, JOB_LIMIT, KEEP, PROPER
+from .record import Record, way_back
 from .refusals import Fault, first_fault
-from .wrong import span
+from .words import field_text
+from .wrong import bits_span
 
 
 def shape_fault(pieces, length):
@@ -52,7 +53,7 @@ def unnamed_bits(issued):
     why = f"bit {lowest} of 0x{word:08x} is 1, and {instruction.name} names {named_bits(instruction, lowest)}"
     remedy = f"clear bit {lowest}"
     if others:
-        remedy += f", and {'bit' if len(others) == 1 else 'bits'} {span(others)}, which would be refused next"
+        remedy += f", and {bits_span(others)}, which would be refused next"
     return Fault(refusals.UNNAMED, why, remedy, bit=lowest)
 
 
@@ -82,6 +83,11 @@ def unmodelled_settings(issued):
     return Fault(refusals.SETTINGS, why) if why else None
 
 
+def switches(record, turned=()):
+    """The switches in the settings, such as `keep=a`, with those of some files turned over."""
+    return field_text(KEEP, record.settings.flags ^ sum(1 << banks.file << KEEP.low for banks in turned))
+
+
 def matrix_needs(issued):
     needed = [issued.record.src[file] for file in issued.effect().needs]
     missing = [banks for banks in needed if not banks.owned[banks.matrix]]
@@ -89,8 +95,11 @@ def matrix_needs(issued):
         return None
     places = " and ".join(banks.place(banks.matrix) for banks in missing)
     why = f"{places}, at the matrix unit's pointer, {'is' if len(missing) == 1 else 'are'} the unpackers'"
-    remedy = " and ".join(f"hand over {FILES[banks.file]}" for banks in missing)
-    return Fault(refusals.OWNER, why, f"{remedy} before this instruction")
+    remedy = " and ".join(f"hand over {FILES[banks.file]}" for banks in missing) + " before this instruction"
+    given = [banks for banks in missing if banks.given_back()]
+    if given:
+        remedy += f"; or write {switches(issued.record, given)} in the settings, so that a clear keeps the bank"
+    return Fault(refusals.OWNER, why + "".join(banks.last_clear() for banks in missing), remedy + way_back(missing))
 
 
 def dst_too_high(issued):
@@ -120,7 +129,7 @@ def follow_issue(record, value):
     issued = issued_by(record, value)
     issued.effect().leave(issued)
     for banks in issued.chosen("clear"):
-        banks.clear()
+        banks.clear(record.at)
     if "slot" in issued.numbers:
         thread = record.settings.threads[value.thread]
         issued.counters().follow(thread.slots[thread.slot_number(issued.numbers["slot"])])
@@ -134,12 +143,23 @@ def judge_unpackers(record, value):
     if not banks.owned[banks.unpackers]:
         return None
     why = f"{banks.place(banks.unpackers)}, at the unpackers' pointer, is the matrix unit's"
-    letter = CLEAR.words[banks.file]
-    return Fault(refusals.OWNER, why, f"give the bank back before with clear={letter} on an instruction that is done with it")
+    if not banks.keep:
+        remedy = f"give the bank back before with clear={banks.letter()} on an instruction that is done with it"
+        return Fault(refusals.OWNER, why, remedy)
+    cleared = banks.cleared[banks.unpackers]
+    if cleared is not None:
+        why += f"; the clear at {cleared} kept it, as {switches(record)} in the settings says"
+    remedy = (
+        f"with {switches(record)} in the settings each bank of {PROPER[banks.file]} is handed over once, and no clear gives it back: "
+        f"load all that it shall hold before its hand over, or write {switches(record, [banks])} instead"
+    )
+    return Fault(refusals.OWNER, why, remedy)
 
 
 def follow_settings(record, value):
     record.settings = value
+    for banks in record.src:
+        banks.keep = bool(value.keeps() >> banks.file & 1)
 
 
 def follow_load(record, value):
@@ -174,6 +194,7 @@ def find_fault(data, pieces):
         return fault
     record = Record()
     for piece in pieces:
+        record.at = piece.at
         fault = JUDGES[piece.kind](record, piece.value) if piece.kind in JUDGES else None
         if fault:
             return fault._replace(place=piece.at)

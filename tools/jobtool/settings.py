@@ -1,11 +1,15 @@
 """The settings as text and back: their head, the threads and the slots."""
 
 from .fields import SETTINGS, Settings, Thread
-from .layout import BASE, FLAGS, FORMAT, FORMATS, SLOT, SLOT_PARTS, SLOTS, THREAD, THREADS, slot_name, thread_name
+from .layout import BASE, FLAGS, FORMAT, FORMATS, KEEP, SLOT, SLOT_PARTS, SLOTS, THREAD, THREADS, slot_name, thread_name
 from .ranges import WHOLE
-from .wrong import Wrong, once
+from .words import bits_number, field_text
+from .wrong import Wrong, did_you_mean, once
 
 SETTINGS_FORM = "settings format bf16 fp32 base 0"
+KEEPS = ("keep=a", "keep=b", "keep=ab")
+KEEP_FORM = f"{', '.join(KEEPS[:-1])} or {KEEPS[-1]}"
+WORDS = ("format", "base") + FLAGS
 THREAD_FORM = "thread 0 offset 0 fidelity 0 extra 0"
 SLOT_FORM = "slot 0.1 a +16 b +8 dst +8 phase clear"
 
@@ -18,13 +22,25 @@ def format_of(text):
     raise Wrong(f"there is no format {text}; formats are {', '.join(FORMATS)}, or {FORMAT}")
 
 
+def keep_flags(word, seen):
+    """The flags of a word such as `keep=ab`."""
+    key, equals, letters = word.partition("=")
+    if key != KEEP.key or not equals:
+        raise Wrong(f"{word}: write {KEEP_FORM}")
+    once(key, seen, f"one of {KEEP_FORM}")
+    return bits_number(KEEP, letters) << KEEP.low
+
+
 def settings_head(words):
     """Format, flags and base of a settings line."""
     form, flags, base, seen = None, 0, 0, set()
     words = iter(words)
     for word in words:
-        if word not in ("format", "base") + FLAGS:
-            raise Wrong(f"{word} is no setting; write {SETTINGS_FORM}")
+        if word.startswith(KEEP.key):
+            flags |= keep_flags(word, seen)
+            continue
+        if word not in WORDS:
+            raise Wrong(f"{word} is no setting; write {SETTINGS_FORM}" + did_you_mean(word, WORDS + KEEPS))
         once(word, seen)
         if word == "format":
             form = format_of(next(words, "without a name"))
@@ -120,6 +136,8 @@ def slot_text(slot):
 
 def settings_text(settings):
     flags = [flag for bit, flag in enumerate(FLAGS) if settings.flags >> bit & 1]
+    if settings.keeps():
+        flags.append(field_text(KEEP, settings.flags))
     return " ".join(["settings format", FORMATS[settings.format], *flags, f"base {settings.base}"])
 
 

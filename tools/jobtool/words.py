@@ -14,6 +14,11 @@ def bits_text(bits, number):
     return bits.words[number] if bits.words else str(number)
 
 
+def field_text(bits, word):
+    """A field of a word, such as `clear=ab`."""
+    return f"{bits.key}={bits_text(bits, bits.get(word))}"
+
+
 def bits_number(bits, text):
     if isinstance(bits.words, str):
         letters = "" if text == "none" else text
@@ -40,7 +45,7 @@ def word_text(word):
         return " ".join(words + operands_text(numbers))
     for bits in instruction.bits:
         if bits.key in numbers and (bits.get(word) or bits.shown):
-            words.append(f"{bits.key}={bits_text(bits, bits.get(word))}")
+            words.append(field_text(bits, word))
     return " ".join(words)
 
 

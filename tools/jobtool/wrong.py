@@ -12,10 +12,10 @@ class Wrong(Exception):
         self.line, self.remedy = line, remedy
 
 
-def once(name, seen):
-    """Notes a name that may stand only once."""
+def once(name, seen, instead=""):
+    """Notes a name that may stand only once; what to write instead of two, where that is to be said."""
     if name in seen:
-        raise Wrong(f"{name} stands twice")
+        raise Wrong(f"{name} stands twice" + (f"; write {instead}" if instead else ""))
     seen.add(name)
 
 
@@ -39,3 +39,8 @@ def span(numbers):
         else:
             runs.append([number, number])
     return ", ".join(str(low) if low == high else f"{low} to {high}" for low, high in runs)
+
+
+def bits_span(bits):
+    """Rising bit numbers as `bit 3`, or `bits 3, 5 to 7`."""
+    return f"{'bit' if len(bits) == 1 else 'bits'} {span(bits)}"
