@@ -162,9 +162,8 @@ pub fn core_with(k: Core, thread: u8, own: Own, clear: Clear, last: u8) -> Core
     let x = chosen(thread == 0, own, old_x);
     let y = chosen(thread == 1, own, old_y);
     let z = chosen(thread == 2, own, old_z);
-    let keep = settings.keep;
-    let a = clear_if(old_a, clear.a, keep.a);
-    let b = clear_if(old_b, clear.b, keep.b);
+    let a = clear_if(old_a, clear.a, k.settings.keep.a);
+    let b = clear_if(old_b, clear.b, k.settings.keep.b);
     Core {
         settings,
         x,

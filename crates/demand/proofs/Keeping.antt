@@ -1,13 +1,13 @@
 -- What a clear leaves of a Src file's banks, marks and numbers, by opcodes and bits; and along a job with the file's switch on, a bank stays the matrix
 -- unit's and its rows set. One proof for the two files. Assumes nothing.
-use mathlib.Core.Path.{_≡_, refl, sym, ap, subst, _∙_}
+use mathlib.Core.Path.{_≡_, refl, sym, ap, _∙_}
 use mathlib.Core.Bool.{Bool, true, false, cond, not, _&&_, false≢true}
 use mathlib.Core.List.{List, [], _∷_}
 use mathlib.Core.Option.{some}
 use mathlib.Core.Logic.{_≢_}
-use Prim.Native.Nat.{ℕ, zero, suc, _+_, _*_, _≤_, _<_}
+use Prim.Native.Nat.{ℕ, zero, suc, _+_, _*_, _/_, _%_, _^_, _≤_, _<_}
 use native.Mathlib.Omega.{arith}
-use lib.Dec.{ltb}
+use lib.Dec.{eqb, ltb}
 use lib.ListN.{length, getD}
 use borrow.Author.Tests.{ltb-true, ltb-false}
 use Rattle.cells.specs.declared.layout.File.{File}
@@ -42,6 +42,7 @@ use Rattle.rules.proofs.AfterKeeps.{record-after-settings, banks-after}
 use Rattle.step.specs.Effect.{effectOf, stateAfter}
 use Rattle.step.specs.Step.{ifDone, verdictOf, steppedOf, stateOf}
 use Rattle.job.specs.Fields.{jobWidth, fieldAt, fieldsFrom, EachField}
+use Rattle.job.specs.Settings.{settled}
 use Rattle.job.specs.Shape.{shapeOf}
 use Rattle.job.specs.declared.Shape.the-variants.{Right}
 use Rattle.job.specs.declared.Write.{Write}
@@ -56,7 +57,7 @@ use Rattle.run.specs.Perform.{controlOn}
 use Rattle.precheck.specs.Marks.{Marks, unset, srcMarks, markSrc, markDst, markRegister, instructionMarks}
 use Rattle.precheck.specs.Judging.{fieldRules}
 use Rattle.precheck.specs.Marking.{writeMarks, fieldMarks}
-use Rattle.demand.specs.Keeping.{keeps, clearing, clears, banks, banksLeft, marksLeft, Clearing, ClearRule, Fills, load, handOver, Later, KeptAlong}
+use Rattle.demand.specs.Keeping.{keeps, switchBit, switchedOn, clearing, clears, banks, banksLeft, marksLeft, Clearing, ClearRule, Fills, load, handOver, Later, KeptAlong}
 use Rattle.demand.specs.WellShaped.{WellShaped}
 use Rattle.demand.specs.Breaks.{brokenRule}
 use Rattle.demand.specs.Meetings.{Meeting, meetingAt}
@@ -65,7 +66,7 @@ use Rattle.demand.proofs.MarksStay.{In}
 use Rattle.demand.proofs.Steps.{step-demand1}
 use Rattle.demand.proofs.ByOpcode.{ByOpcodes, done-acts}
 use Rattle.demand.proofs.Shapes.{well-right}
-use Rattle.demand.proofs.Widths.{opening, settled-once}
+use Rattle.demand.proofs.Widths.{opening, first, settled-first, flags-first, settled-once}
 
 -- ---- which words clear
 
@@ -255,13 +256,29 @@ module _ (f : File) (c : Control) (t w : ℕ) (s : State) where
   others h verdict.Done e = banks-done e ∙ ap (λ (b : Bool). clearedIf (banksOf c f) b (keeps f (c .settings))) h
   others h (verdict.Refused r) e = ap (λ (c : Control). banksOf c f) (step-refused r e)
 
+  -- where no bank is given back no row is unset
+  none-unset : (bitOf f (meaningOf (acting w) .clear) && not (keeps f (c .settings))) ≡ false → (m : Marks) → In (srcMarks m f) (marksLeft f c m t w)
+  none-unset n m r h =
+      let l = overSpan (spanOf f (wordSets c t w)) true (srcMarks m f) in
+      let none : marksLeft f c m t w ≡ l =
+      marks-of f c m t w
+      ∙ ap (λ (on : Bool). overSpan (cond on (bankSpan (banksOf c f .matrix)) noSpan) false l) n
+      ∙ none-over false l in
+      ap (λ (x : List Bool). getD x r false) none ∙ over-true _ (srcMarks m f) r h
+
   settings-left : (v : Verdict) → verdictOf c t w s ≡ v → steppedOf c t w s .control .settings ≡ c .settings
   unfolding steppedOf controlAfter
   settings-left verdict.Done e = ap (λ (v : Verdict). ifDone v (controlAfter c t w) c .settings) e ∙ record-after-settings c t (acting w)
   settings-left (verdict.Refused r) e = ap (λ (c : Control). c .settings) (step-refused r e)
 
   pub clear-rule : (m : Marks) → ClearRule f c t w s m
-  clear-rule m = record { cleared = λ h e. clearing-is h e m; stays = λ h. others h (verdictOf c t w s) refl; switches = settings-left (verdictOf c t w s) refl }
+  clear-rule m =
+      record {
+        cleared = λ h e. clearing-is h e m;
+        stays = λ h. others h (verdictOf c t w s) refl;
+        set-stays = λ h e. none-unset (ap (λ (on : Bool). on && not (keeps f (c .settings))) (bit-is e ∙ h)) m;
+        switches = settings-left (verdictOf c t w s) refl;
+      }
 
   -- with the switch on, whatever the word
   step-owned : keeps f (c .settings) ≡ true → (p : ℕ) → (v : Verdict) → verdictOf c t w s ≡ v → ownedAt (banksLeft f c t w s) p ≡ ownedAt (banksOf c f) p
@@ -271,15 +288,9 @@ module _ (f : File) (c : Control) (t w : ℕ) (s : State) where
   step-owned k p (verdict.Refused r) e = ap (λ (c : Control). ownedAt (banksOf c f) p) (step-refused r e)
 
   step-set : keeps f (c .settings) ≡ true → (m : Marks) → In (srcMarks m f) (marksLeft f c m t w)
-  step-set k m r h =
+  step-set k =
       let b = bitOf f (meaningOf (acting w) .clear) in
-      let l = overSpan (spanOf f (wordSets c t w)) true (srcMarks m f) in
-      let none : marksLeft f c m t w ≡ l =
-      marks-of f c m t w
-      ∙ ap (λ (keep : Bool). overSpan (givenBack (banksOf c f) b keep) false l) k
-      ∙ ap (λ (on : Bool). overSpan (cond on (bankSpan (banksOf c f .matrix)) noSpan) false l) (and-not b)
-      ∙ none-over false l in
-      ap (λ (x : List Bool). getD x r false) none ∙ over-true _ (srcMarks m f) r h
+      none-unset (ap (λ (keep : Bool). b && not keep) k ∙ and-not b)
 
 -- ---- a field of a job
 
@@ -344,6 +355,16 @@ module _ (f : File) (job : List ℕ) where
       let b = later fs _ _ _ j y (o .1) e (ap (keeps f) (settings-on c s (g .place) (g .kind) (o .0)) ∙ k) in
       record { owned = λ p h. b .owned p (a .owned p h); set = λ r h. b .set r (a .set r h) }
 
+  -- each meets the settings of the first
+  settings-met : (fs : List Field) (c : Control) (m : Marks) (s : State) (k : ℕ) (x : Meeting) → EachField NotSettings fs → meetingAt job fs c m s k ≡ some x
+      → x .control .settings ≡ c .settings
+  unfolding meetingAt
+  settings-met [] c m s k x o e = absurd (let z : _≡_ {A = ℕ} 0 1 = cc in omega arith)
+  settings-met (g ∷ fs) c m s zero x o e =
+      let q : record { field = g; control = c; marks = m; state = s } ≡ x = cc in
+      ap (λ (x : Meeting). x .control .settings) (sym q)
+  settings-met (g ∷ fs) c m s (suc k) x o e = settings-met fs _ _ _ k x (o .1) e ∙ settings-on c s (g .place) (g .kind) (o .0)
+
   from : (fs : List Field) (c : Control) (m : Marks) (s : State) (i j : ℕ) (x y : Meeting) → EachField NotSettings fs → i ≤ j
       → meetingAt job fs c m s i ≡ some x → meetingAt job fs c m s j ≡ some y → keeps f (x .control .settings) ≡ true → Holds f (x .control) (x .marks) (y .control) (y .marks)
   unfolding meetingAt
@@ -361,6 +382,12 @@ unfolding start
 start-off A = refl
 start-off B = refl
 
+-- the switch as the settings' flags have it
+flag-on : (f : File) (c : Control) (p : List ℕ) {n : ℕ} → getD p 1 0 ≡ n → keeps f (settled c p .settings) ≡ eqb (n / 2 ^ switchBit f % 2) 1
+unfolding settled
+flag-on A c p e = ap (λ (n : ℕ). eqb (n / 2 ^ 3 % 2) 1) e
+flag-on B c p e = ap (λ (n : ℕ). eqb (n / 2 ^ 4 % 2) 1) e
+
 module _ (job : List ℕ) (s : State) (f : File) where
   -- the first field is the settings, which meets the switch off
   past-first : (g : Field) (fs : List Field) (m : Marks) → EachField NotSettings fs → (i j : ℕ) (x y : Meeting) → i ≤ j
@@ -377,6 +404,23 @@ module _ (job : List ℕ) (s : State) (f : File) where
       → meetingAt job (fieldAt job 0 ∷ fieldsFrom job (fieldAt job 0 .next)) start (unset (jobWidth job)) s i ≡ meeting job s i
   opened r i = ap (λ (fs : List Field). meetingAt job fs start (unset (jobWidth job)) s i) (sym (opening job r))
 
+  after-first : (g : Field) (fs : List Field) (m : Marks) → EachField NotSettings fs → (k : ℕ) (x : Meeting)
+      → meetingAt job (g ∷ fs) start m s (suc k) ≡ some x → x .control .settings ≡ controlOn job start (g .place) (g .kind) s .settings
+  unfolding meetingAt
+  after-first g fs m o k x e = settings-met f job fs _ _ _ k x o e
+
+  -- the record that the settings make, in a run as before it
+  made : (g : Field) → g .kind ≡ kind.Settings → controlOn job start (g .place) (g .kind) s ≡ fieldControl job start (g .place) (g .kind)
+  unfolding controlOn
+  made g e = rw e
+
+  switched : WellShaped job → (k : ℕ) (x : Meeting) → meeting job s (suc k) ≡ some x → keeps f (x .control .settings) ≡ switchedOn f job
+  switched w k x e =
+      let r = well-right job w in
+      ap (keeps f) (after-first _ _ (unset (jobWidth job)) (settled-once job r) k x (opened r (suc k) ∙ e))
+      ∙ ap (λ (c : Control). keeps f (c .settings)) (made (fieldAt job 0) (first job r) ∙ settled-first job r)
+      ∙ flag-on f start _ (flags-first job r)
+
   along : WellShaped job → (x y : Meeting) → Later job s f x y → Holds f (x .control) (x .marks) (y .control) (y .marks)
   along w x y z =
       let r = well-right job w in
@@ -392,6 +436,7 @@ module _ (job : List ℕ) (s : State) (f : File) where
   pub kept-along : KeptAlong job s f
   kept-along =
       record {
+        switch = switched;
         owned = λ w x y z. along w x y z .owned;
         set = λ w x y z. along w x y z .set;
         six = λ w x y z k h. breaks-six (y .control) (y .marks) (y .field .kind) k (along w x y z .owned (banksOf (y .control) f .unpack) h);

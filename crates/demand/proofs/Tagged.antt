@@ -1,20 +1,19 @@
 -- The fields that the reader finds in a well-shaped job are those of its bytes: as many issue fields as fields with tag 5, and the width that the
 -- settings' bytes give. Assumes nothing.
 use mathlib.Core.Path.{_≡_, refl, sym, ap, _∙_}
-use mathlib.Core.Bool.{Bool, true, false, cond}
-use mathlib.Core.List.{List, [], _∷_, _++_, append-nil, append-assoc}
-use Prim.Native.Nat.{ℕ, zero, suc, _+_, _*_, _/_, _%_, _^_, _≤_, _<_}
+use mathlib.Core.Bool.{false, cond}
+use mathlib.Core.List.{List, [], _∷_, _++_, append-nil}
+use Prim.Native.Nat.{ℕ, zero, suc, _*_, _/_, _%_, _≤_, _<_}
 use native.Mathlib.Nat.{div-div-eq-div-mul, mul-mod-left}
 use native.Mathlib.Omega.{arith}
-use borrow.Author.Tests.{eqb-true, eqb-false, eq-eqb, ne-eqb}
+use borrow.Author.Tests.{eqb-false, eq-eqb, ne-eqb}
 use lib.Dec.{eqb}
 use lib.ListN.{length, getD, drop}
 use lib.Seq.{getD-drop}
 use Rattle.cells.specs.declared.Width.{Width}
 use Rattle.cells.specs.declared.Width.the-variants.{Bits16}
 use Rattle.word.specs.Bits.{bit}
-use Rattle.control.specs.Record.{widthOf}
-use Rattle.job.specs.Fields.{jobWidth, wholeField, fieldAt, fieldsFrom}
+use Rattle.job.specs.Fields.{jobWidth, fieldsFrom}
 use Rattle.job.specs.Settings.{settingsOf}
 use Rattle.job.specs.declared.Kind.{Kind}
 use Rattle.job.specs.declared.Kind.the-variants as kind
@@ -26,8 +25,7 @@ use Rattle.job.specs.declared.Field.{Field}
 use Rattle.job.proofs.Walk.{fields-end, fields-step}
 use Rattle.job.proofs.Says.{WriteSays, OutputSays, Says, says}
 use Rattle.demand.specs.Breaks.{isIssue, issueFields}
-use Rattle.demand.specs.Demand.{InBf16, SettingsModes}
-use Rattle.demand.specs.WellShaped.{FieldBytes, bytesOf, joined, Settles, Prints, Acts, EachOf, WellShaped, fieldsOf, tagged}
+use Rattle.demand.specs.WellShaped.{FieldBytes, joined, Prints, Acts, EachOf, WellShaped, fieldsOf, tagged}
 use Rattle.demand.proofs.Modes.{settings-modes}
 use Rattle.demand.proofs.Tags.{Acting, Printing, found, settles-kind, acts-kind, prints-kind}
 use Rattle.demand.proofs.Shapes.{field-after, inside, after, from}
@@ -140,15 +138,15 @@ module _ (job : List ℕ) where
   bits-off n h =
       (ne-eqb (n / 1 % 2) 1 (λ (z : n / 1 % 2 ≡ 1). omega (arith, h, z)), ne-eqb (n / 2 % 2) 1 (λ (z : n / 2 % 2 ≡ 1). omega (arith, h, z)), ne-eqb (n / 4 % 2) 1 (λ (z : n / 4 % 2 ≡ 1). omega (arith, h, z)))
 
-  pub halves : WellShaped job → getD job 3 0 ≡ 2 → getD job 4 0 % 8 ≡ 0 → jobWidth job ≡ Bits16
+  pub halves : getD job 3 0 ≡ 2 → getD job 4 0 % 8 ≡ 0 → jobWidth job ≡ Bits16
   unfolding jobWidth
-  halves w f g =
+  halves f g =
       let a : getD (drop 3 job) 0 0 ≡ 2 = getD-drop 3 job 0 0 ∙ f in
       let b = bits-off (getD (drop 3 job) 1 0) (ap (λ (n : ℕ). n % 8) (getD-drop 3 job 1 0) ∙ g) in
       settings-modes (settingsOf (drop 3 job)) .halves (record { fp32 = b .0; int8 = b .1; fp16a = b .2; format = a })
 
-  pub bytes : WellShaped job → jobWidth job ≡ Bits16 → (getD job 3 0 ≡ 2) × (getD job 4 0 % 8 ≡ 0)
+  pub bytes : jobWidth job ≡ Bits16 → (getD job 3 0 ≡ 2) × (getD job 4 0 % 8 ≡ 0)
   unfolding jobWidth
-  bytes w e =
+  bytes e =
       let m = settings-modes (settingsOf (drop 3 job)) .bf16 e in
       (sym (getD-drop 3 job 0 0) ∙ m .format, ap (λ (n : ℕ). n % 8) (sym (getD-drop 3 job 1 0)) ∙ flag-bits (getD (drop 3 job) 1 0) (m .fp32) (m .int8) (m .fp16a))

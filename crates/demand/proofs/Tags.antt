@@ -1,8 +1,8 @@
 -- A field is right by the table of tags exactly when its reader finds no fault: of the settings, of a field that acts, and of an output. Assumes nothing.
-use mathlib.Core.Path.{_≡_, refl, sym, ap, _∙_, subst}
+use mathlib.Core.Path.{_≡_, refl, subst}
 use mathlib.Core.Bool.{Bool, true, false, cond}
 use mathlib.Core.List.{List, [], _∷_}
-use Prim.Native.Nat.{ℕ, suc, _+_, _*_, _-_, _/_, _^_, _≤_, _<_}
+use Prim.Native.Nat.{ℕ, _+_, _*_, _^_, _≤_}
 use native.Mathlib.Omega.{arith}
 use borrow.Author.Tests.{ltb-true, lt-ltb, leb-true, le-leb, eqb-true, eq-eqb, ne-eqb, eqb-false}
 use lib.Dec.{leb, ltb, eqb}
@@ -12,13 +12,13 @@ use Rattle.cells.specs.declared.layout.File.the-variants.{A, B}
 use Rattle.cells.specs.declared.layout.Span.{Span}
 use Rattle.cells.specs.declared.Width.{Width}
 use Rattle.cells.specs.declared.Width.the-variants.{Bits32, Bits16}
-use Rattle.cells.specs.Layout.{span, bankRows, srcLimit, threadCount, threadRegisters}
-use Rattle.cells.specs.Places.{rowCount, limitOf}
+use Rattle.cells.specs.Layout.{span, threadCount, threadRegisters}
+use Rattle.cells.specs.Places.{rowCount}
 use Rattle.cells.specs.Tests.{below, all}
 use Rattle.cells.proofs.Cells.{split}
 use Rattle.cells.proofs.Tests.{Each, each-of, all-of, below-of, of-below}
 use Rattle.control.specs.Range.{slotTests, slotOk, settingsTests}
-use Rattle.job.specs.Bytes.{le2, le4}
+use Rattle.job.specs.Bytes.{le2}
 use Rattle.job.specs.Settings.{slotOf, slotRight, threadStart, threadRightTests, threadRight, settingsOf, settingsRightTests, settingsRight}
 use Rattle.job.specs.Kinds.{valueRight, mostRows, dstValues, dstRowsTests, registerTests, loadSpan, loadLengthTests, srcLoadTests, dstLoadTests, settingsKind, loadSrc, loadDst, loadFile, loadRows, loadRegister, handOverFile, issue, outputRows, outputRegister, zeroRows, readKind}
 use Rattle.job.specs.declared.Kind.{Kind}

@@ -3,13 +3,13 @@
 use mathlib.Core.Path.{_≡_, sym, ap, _∙_}
 use mathlib.Core.Bool.{true, false≢true}
 use mathlib.Core.List.{List, [], _∷_}
-use mathlib.Core.Logic.{⊎-elim}
 use Prim.Native.Nat.{ℕ, _≤_, _<_}
 use native.Mathlib.Nat.{min-le-left}
 use native.Mathlib.Omega.{arith}
 use borrow.Author.Tests.{ltb-true, ltb-false}
 use lib.Dec.{ltb}
-use lib.ListN.{length, drop, length-take}
+use lib.ListN.{length, getD, drop, length-take}
+use lib.Seq.{getD-drop, getD-take}
 use Rattle.cells.proofs.Cells.{split}
 use Rattle.control.specs.declared.Control.{Control}
 use Rattle.control.specs.Record.{start, widthOf}
@@ -48,24 +48,34 @@ module _ (job : List ℕ) where
     order : Ordered (fieldAt job 0 ∷ fieldsFrom job (fieldAt job 0 .next))
     order = rw (fields-step job 0 some) at (shaped job r .order)
 
-    first : fieldAt job 0 .kind ≡ Settings
+    pub first : fieldAt job 0 .kind ≡ Settings
     first = opens (fieldAt job 0) (fieldsFrom job (fieldAt job 0 .next)) order
 
-    pub first-width : jobWidth job ≡ widthOf (settled start (payloadAt job 0) .settings)
-    first-width =
+    long-first : settingsBytes ≤ le2 job 1
+    long-first =
         let long : length (payloadAt job 0) ≡ settingsBytes = rw (place-at job 0) at (settings-field job (fieldAt job 0) (sound-at job 0 some) first .long) in
         let most : length (payloadAt job 0) ≤ le2 job 1 = rw length-take (min-le-left (le2 job 1) (length (drop 3 job))) in
-        sym (settled-width start job (omega arith))
+        omega arith
+
+    pub first-width : jobWidth job ≡ widthOf (settled start (payloadAt job 0) .settings)
+    first-width = let l = long-first in sym (settled-width start job (omega (arith, l)))
+
+    -- the record that it makes, and its flags
+    pub settled-first : fieldControl job start (fieldAt job 0 .place) (fieldAt job 0 .kind) ≡ settled start (payloadAt job 0)
+    unfolding fieldControl
+    settled-first = rw (first, settings-field job (fieldAt job 0) (sound-at job 0 some) first .settles start, place-at job 0)
+
+    pub flags-first : getD (payloadAt job 0) 1 0 ≡ getD job 4 0
+    flags-first = let l = long-first in getD-take (le2 job 1) (drop 3 job) 1 0 (omega (arith, l)) ∙ getD-drop 3 job 1 0
 
     settles : widthOf (fieldControl job start (fieldAt job 0 .place) (fieldAt job 0 .kind) .settings) ≡ jobWidth job
-    unfolding fieldControl
-    settles =
-        rw (first, settings-field job (fieldAt job 0) (sound-at job 0 some) first .settles start, place-at job 0) (sym first-width)
+    settles = ap (λ (c : Control). widthOf (c .settings)) settled-first ∙ sym first-width
 
-    -- no later one is
+    -- it, and the fields after it
     pub opening : fieldsFrom job 0 ≡ fieldAt job 0 ∷ fieldsFrom job (fieldAt job 0 .next)
     opening = fields-step job 0 some
 
+    -- none of which is the settings
     pub settled-once : EachField NotSettings (fieldsFrom job (fieldAt job 0 .next))
     settled-once = once (fieldAt job 0) (fieldsFrom job (fieldAt job 0 .next)) order
 

@@ -210,10 +210,11 @@ pub record WordModes (c : Control) (t w : ℕ) : Type 0 where
   pub step : InBf16 (c .settings) → (s : State) (r : Refusal) → verdictOf c t w s ≡ verdict.Refused r → numberOf r ≢ 7
 
 pub record JobModes (job : List ℕ) : Type 0 where
-  -- in a job of right shape, fields go by the width of the record that its settings make: rows are of 16 bits exactly when the settings, whose payload
-  -- begins at byte 3, have format 2 and of the flags neither Fp32, INT8 nor FP16A force, bits 0 to 2
-  pub halves : WellShaped job → getD job 3 0 ≡ 2 → getD job 4 0 % 2 ^ 3 ≡ 0 → jobWidth job ≡ Bits16
-  pub bytes : WellShaped job → jobWidth job ≡ Bits16 → (getD job 3 0 ≡ 2) × (getD job 4 0 % 2 ^ 3 ≡ 0)
+  -- rows are of 16 bits exactly when the settings, whose payload begins at byte 3, have format 2 and of the flags neither Fp32, INT8 nor FP16A force, bits 0
+  -- to 2
+  pub halves : getD job 3 0 ≡ 2 → getD job 4 0 % 2 ^ 3 ≡ 0 → jobWidth job ≡ Bits16
+  pub bytes : jobWidth job ≡ Bits16 → (getD job 3 0 ≡ 2) × (getD job 4 0 % 2 ^ 3 ≡ 0)
+  -- in a job of right shape this is the width of the record that its settings make
   pub width : WellShaped job → jobWidth job ≡ widthOf (settled start (payloadAt job 0) .settings)
   -- neither the pre-check nor a run over any state refuses a job in the BF16 mode with 7
   pub check : jobWidth job ≡ Bits16 → (r : Refusal) (p : ℕ) → precheckOf job ≡ checked.Refused r p → numberOf r ≢ 7

@@ -1,4 +1,4 @@
--- The numbers of a record: each part in the order of its struct, the threads last; a flag is 0 or 1. Definitions only.
+-- The numbers of a record: the settings, the banks of each file, the last SrcA row, the threads; a flag is 0 or 1. Definitions only.
 use mathlib.Core.Bool.{Bool, true, false, cond, _||_}
 use mathlib.Core.List.{List, [], _∷_, _++_}
 use Prim.Native.Nat.{ℕ, _+_, _-_, _/_, _%_}

@@ -1,5 +1,4 @@
-// The control record as numbers in a slice: read, and written back but for the address slots. For each part the numbers stand in the order of its struct, the threads last
-// (include/vintrazzola.h).
+// The control record as numbers in a slice: read, and written back but for the address slots. Their order is that of specs/Lists.antt and of include/vintrazzola.h.
 mod lists;
 mod places;
 mod record;

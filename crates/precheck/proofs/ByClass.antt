@@ -72,12 +72,16 @@ module _ (m : Marks) where
 -- ---- what is marked
 
 -- by a clear, of one file
-pub given-on : (b : Banks) (on keep : Bool) → on && not keep ≡ true → {x : Span} → x ≡ bankSpan (b .matrix) → (l : List Bool) {a : List Bool}
+pub given-on : (b : Banks) {on keep : Bool} → on ≡ true → keep ≡ false → {x : Span} → x ≡ bankSpan (b .matrix) → (l : List Bool) {a : List Bool}
     → a ≡ overSpan x false l → a ≡ overSpan (givenBack b on keep) false l
-given-on b on keep e ex l ea = ea ∙ ap (λ (y : Span). overSpan y false l) (ex ∙ rw e)
+given-on b e k ex l ea = ea ∙ ap (λ (y : Span). overSpan y false l) (ex ∙ rw (e, k))
 
-pub given-off : (b : Banks) (on keep : Bool) → on && not keep ≡ false → (l : List Bool) → l ≡ overSpan (givenBack b on keep) false l
-given-off b on keep e l = rw e (none-marked false l)
+pub given-off : (b : Banks) {on : Bool} (keep : Bool) → on ≡ false → (l : List Bool) → l ≡ overSpan (givenBack b on keep) false l
+given-off b keep e l = rw e (none-marked false l)
+
+pub given-kept : (b : Banks) (on : Bool) {keep : Bool} → keep ≡ true → (l : List Bool) → l ≡ overSpan (givenBack b on keep) false l
+given-kept b true e l = rw e (none-marked false l)
+given-kept b false e l = none-marked false l
 
 module _ (m : Marks) where
   -- by a clear alone

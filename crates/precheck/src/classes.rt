@@ -50,8 +50,15 @@ fn check_multiply(
         let a = k.a;
         let b = k.b;
         let clear = w.fields().clear;
-        let keep = k.settings.keep;
-        unset_cleared(a, b, clear, keep, srca, srcb);
+        unset_cleared(
+            a,
+            b,
+            clear,
+            k.settings.keep.a,
+            k.settings.keep.b,
+            srca,
+            srcb,
+        );
         return Verdict::Done;
     }
     Verdict::Refused(Refusal::UnsetRead)
@@ -68,8 +75,15 @@ fn check_legacy(k: Core, w: LegacyWord, srca: &mut [bool], srcb: &mut [bool]) ->
     let a = k.a;
     let b = k.b;
     let clear = w.fields().clear;
-    let keep = k.settings.keep;
-    unset_cleared(a, b, clear, keep, srca, srcb);
+    unset_cleared(
+        a,
+        b,
+        clear,
+        k.settings.keep.a,
+        k.settings.keep.b,
+        srca,
+        srcb,
+    );
     Verdict::Done
 }
 
@@ -85,8 +99,15 @@ fn check_set(k: Core, w: SetCountersWord, srca: &mut [bool], srcb: &mut [bool]) 
     let a = k.a;
     let b = k.b;
     let clear = x.clear;
-    let keep = k.settings.keep;
-    unset_cleared(a, b, clear, keep, srca, srcb);
+    unset_cleared(
+        a,
+        b,
+        clear,
+        k.settings.keep.a,
+        k.settings.keep.b,
+        srca,
+        srcb,
+    );
     Verdict::Done
 }
 

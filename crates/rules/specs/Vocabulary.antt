@@ -55,7 +55,7 @@ pub record Meaning : Type 0 where
   -- the rows and registers that it reads and that it sets, under a record and for a thread
   pub reads : Control → ℕ → Reads
   pub sets : Control → ℕ → Sets
-  -- the files that it clears: their banks are given back and unset, or kept, as the settings' switches say
+  -- the files that it clears: of each, the bank at the matrix pointer is given back and unset, or kept, as the file's switch says
   pub clear : Clear
   -- what else becomes of the record, after the clear
   pub move : Move

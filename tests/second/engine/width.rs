@@ -19,7 +19,7 @@ pub const MOST_DST_ROWS: usize = Width::Bits16.rows();
 impl Width {
     pub const ALL: [Width; 2] = [Width::Bits32, Width::Bits16];
 
-    /// The width under a format and flags: 16 bits for BF16 with all three flags off.
+    /// The width under a format and flags: 16 bits for BF16 with Fp32, INT8 and FP16A force off.
     pub fn of(format: u8, flags: u8) -> Width {
         if format == BF16 && flags & KIND_FLAGS == 0 {
             Width::Bits16

@@ -19,7 +19,7 @@ clear-if-requires-2 : tie.Need-clear-if-requires-2
 clear-if-requires-2 c κs = search needs
 
 returns : tie.Need-returns
-returns c = simp ((c .clear-if2 .ensures), (c .before .clear-if .ensures), (c .before .before .before .chosen3 .ensures), (c .before .before .before .before .chosen2 .ensures), (c .before .before .before .before .before .chosen .ensures))
+returns c = simp ((c .clear-if2 .ensures), (c .before .clear-if .ensures), (c .before .before .chosen3 .ensures), (c .before .before .before .chosen2 .ensures), (c .before .before .before .before .chosen .ensures))
 
 pub core-with-spec : {M : Type 1} → statement M
 core-with-spec =

@@ -40,9 +40,9 @@ same-length-2 c = search needs
 
 returns-2 : tie.Need-returns-2
 unfolding joined operandRules lowest readsOf setsOf unsetsOf marksAfter
-returns-2 c = let args = c .before .before .before .before .before .before .before .before .before .before .before .before .before .before .before .before .before .args in
+returns-2 c = let args = c .before .before .before .before .before .before .before .before .before .before .before .before .before .before .before .before .args in
     λ s t d r. let m = marks (now (args .srca)) (now (args .srcb)) d r in
-    nothing-read _ m _ _ (sym (c .before .before .before .before .before .before .before .before .before .before .before .before .enum-told .given .1) ∙ ((c .before .before .before .before .before .before .before .before .before .before .before .before .before .before .judge-legacy .ensures .0) s)) (nothing-set m) (cleared-by m (joined (args .k) s) (ap (λ (x : Legacy). x .clear) (c .before .before .before .before .before .before .before .before .before .fields .ensures)) ((c .before .before .before .before .unset-cleared .ensures) d r))
+    nothing-read _ m _ _ (sym (c .before .before .before .before .before .before .before .before .before .before .before .enum-told .given .1) ∙ ((c .before .before .before .before .before .before .before .before .before .before .before .before .before .judge-legacy .ensures .0) s)) (nothing-set m) (cleared-by m (joined (args .k) s) (ap (λ (x : Legacy). x .clear) (c .before .before .before .before .before .before .before .before .fields .ensures)) ((c .before .before .before .before .unset-cleared .ensures) d r))
 
 pub check-legacy-spec : {M : Type 1} → statement M
 check-legacy-spec =

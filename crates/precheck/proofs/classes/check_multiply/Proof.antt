@@ -50,11 +50,11 @@ same-length-2 c = search needs
 
 returns-2 : tie.Need-returns-2
 unfolding joined readsOf setsOf unsetsOf marksAfter
-returns-2 c = let args = c .before .before .before .before .before .before .before .before .before .before .before .before .before .before .before .before .before .before .before .before .before .before .before .before .before .before .before .before .args in
+returns-2 c = let args = c .before .before .before .before .before .before .before .before .before .before .before .before .before .before .before .before .before .before .before .before .before .before .before .before .before .before .before .args in
     λ s r. let m = marks (now (args .srca)) (now (args .srcb)) (now (args .dst)) r in
-    all-read _ m _ _ ((c .before .before .before .before .before .before .before .before .before .before .before .before .before .before .before .before .before .before .before .before .before .before .before .before .judge-multiply .ensures .0) s) (c .before .before .before .before .before .before .before .before .before .before .before .before .before .before .before .before .before .before .before .before .before .before .enum-told .given .1)
-    (rows-read m _ _ _ ((c .before .before .before .before .before .before .before .before .before .before .before .before .before .before .before .before .before .before .before .before .before .multiply-reads .ensures) s) (c .before .before .before .before .before .before .before .before .before .before .before .before .before .before .before .before .all-set .ensures) (c .before .before .before .before .before .before .before .before .before .before .before .before .before .before .all-set2 .ensures) (c .before .before .before .before .before .before .before .before .before .before .before .before .before .all-set3 .ensures)) (c .before .before .before .before .before .before .before .before .before .before .before .before .if1 .taken)
-    (cleared-by m (joined (args .k) s) (ap (λ (x : Multiply). x .clear) (c .before .before .before .before .before .before .before .before .before .fields .ensures)) ((c .before .before .before .before .unset-cleared .ensures) (now (args .dst)) r))
+    all-read _ m _ _ ((c .before .before .before .before .before .before .before .before .before .before .before .before .before .before .before .before .before .before .before .before .before .before .before .judge-multiply .ensures .0) s) (c .before .before .before .before .before .before .before .before .before .before .before .before .before .before .before .before .before .before .before .before .before .enum-told .given .1)
+    (rows-read m _ _ _ ((c .before .before .before .before .before .before .before .before .before .before .before .before .before .before .before .before .before .before .before .before .multiply-reads .ensures) s) (c .before .before .before .before .before .before .before .before .before .before .before .before .before .before .before .all-set .ensures) (c .before .before .before .before .before .before .before .before .before .before .before .before .before .all-set2 .ensures) (c .before .before .before .before .before .before .before .before .before .before .before .before .all-set3 .ensures)) (c .before .before .before .before .before .before .before .before .before .before .before .if1 .taken)
+    (cleared-by m (joined (args .k) s) (ap (λ (x : Multiply). x .clear) (c .before .before .before .before .before .before .before .before .fields .ensures)) ((c .before .before .before .before .unset-cleared .ensures) (now (args .dst)) r))
 
 same-length-3 : tie.Need-same-length-3
 same-length-3 c = search needs

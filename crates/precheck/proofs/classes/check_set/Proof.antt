@@ -42,9 +42,9 @@ same-length-2 c = search needs
 
 returns-2 : tie.Need-returns-2
 unfolding joined operandRules lowest readsOf setsOf unsetsOf marksAfter
-returns-2 c = let args = c .before .before .before .before .before .before .before .before .before .before .before .before .before .before .before .before .before .args in
+returns-2 c = let args = c .before .before .before .before .before .before .before .before .before .before .before .before .before .before .before .before .args in
     λ s t d r. let m = marks (now (args .srca)) (now (args .srcb)) d r in
-    nothing-read _ m _ _ (sym (c .before .before .before .before .before .before .before .before .before .before .before .enum-told .given .1) ∙ (c .before .before .before .before .before .before .before .before .before .before .before .before .before .judge-counters .ensures .0 ∙ ap (λ (x : SetCounters). refusedIf (leb 1 (x .mode)) UndefinedMode) (c .before .before .before .before .before .before .before .before .before .before .before .before .before .before .fields .ensures))) (nothing-set m) (cleared-by m (joined (args .k) s) (ap (λ (x : SetCounters). x .clear) (c .before .before .before .before .before .before .before .before .before .before .before .before .before .before .fields .ensures)) ((c .before .before .before .before .unset-cleared .ensures) d r))
+    nothing-read _ m _ _ (sym (c .before .before .before .before .before .before .before .before .before .before .enum-told .given .1) ∙ (c .before .before .before .before .before .before .before .before .before .before .before .before .judge-counters .ensures .0 ∙ ap (λ (x : SetCounters). refusedIf (leb 1 (x .mode)) UndefinedMode) (c .before .before .before .before .before .before .before .before .before .before .before .before .before .fields .ensures))) (nothing-set m) (cleared-by m (joined (args .k) s) (ap (λ (x : SetCounters). x .clear) (c .before .before .before .before .before .before .before .before .before .before .before .before .before .fields .ensures)) ((c .before .before .before .before .unset-cleared .ensures) d r))
 
 pub check-set-spec : {M : Type 1} → statement M
 check-set-spec =
