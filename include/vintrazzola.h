@@ -59,9 +59,11 @@ uint64_t vintrazzola_run(const uint8_t *job, size_t job_length,
    0 or 1, the last SrcA row 0, 16, 32 or 48; settings and slots are as a job's settings field may have them.
 
    From each of these places on, in this order:
-   VINTRAZZOLA_SETTINGS     SrcA format, Fp32 (flag), INT8 (flag), FP16A force (flag), DEST_REGW_BASE, and the two switches
-                            (flags) by which a clear keeps SrcA's bank and SrcB's: at VINTRAZZOLA_KEEP_A and
-                            VINTRAZZOLA_KEEP_B
+   VINTRAZZOLA_SETTINGS     SrcA format, Fp32 (flag), INT8 (flag), FP16A force (flag), DEST_REGW_BASE, keep SrcA (flag),
+                            keep SrcB (flag); the last two at VINTRAZZOLA_KEEP_A and VINTRAZZOLA_KEEP_B. Where a file's
+                            is 1, an instruction that clears the file moves the matrix unit's pointer to the other bank
+                            and leaves the owners; where it is 0, the bank that the pointer leaves becomes the
+                            unpackers' besides
    VINTRAZZOLA_BANKS_A      SrcA's banks: matrix unit's pointer, unpackers' pointer, the matrix unit owns bank 0 (flag),
                             bank 1 (flag)
    VINTRAZZOLA_BANKS_B      SrcB's banks, the same

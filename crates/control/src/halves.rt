@@ -149,7 +149,7 @@ fn chosen(on: bool, new: Own, old: Own) -> Own
 }
 
 // The core with a thread's own numbers anew, the banks after a clear, and the last SrcA row. It is written out field by field: so it stands in its callers'
-// code, and nothing of the core goes through memory.
+// code, and nothing of the core goes through memory. Most instructions clear no file, and then the banks and the switches are not looked at.
 pub fn core_with(k: Core, thread: u8, own: Own, clear: Clear, last: u8) -> Core
     ensures { λ r. ⌜ r ≡ coreWith k thread own clear last ⌝ }
 {
@@ -162,8 +162,12 @@ pub fn core_with(k: Core, thread: u8, own: Own, clear: Clear, last: u8) -> Core
     let x = chosen(thread == 0, own, old_x);
     let y = chosen(thread == 1, own, old_y);
     let z = chosen(thread == 2, own, old_z);
-    let a = clear_if(old_a, clear.a, k.settings.keep.a);
-    let b = clear_if(old_b, clear.b, k.settings.keep.b);
+    let mut a = old_a;
+    let mut b = old_b;
+    if clear.a | clear.b {
+        a = clear_if(old_a, clear.a, k.settings.keep.a);
+        b = clear_if(old_b, clear.b, k.settings.keep.b);
+    }
     Core {
         settings,
         x,

@@ -6,6 +6,7 @@ use mathlib.Core.Option.{Option, none, some}
 use Prim.Native.Nat.{ℕ}
 use Rattle.cells.specs.State.{State}
 use Rattle.cells.specs.Tests.{oneOf}
+use Rattle.cells.proofs.Cells.{both-off}
 use Rattle.word.specs.Table.{Row, table}
 use Rattle.word.specs.Operands.{opcodeOf, operandsOf}
 use Rattle.word.specs.Word.{rowOf, unknownIn, unknownOpcode, unnamedBit, offendingBit, wordOperands, operandsIn, readAs, readWord}
@@ -20,7 +21,6 @@ use Rattle.rules.specs.declared.Verdict.the-variants.{Done}
 use Rattle.step.specs.Step.{verdictOf}
 use Rattle.demand.specs.Breaks.{brokenRule}
 use Rattle.demand.proofs.Steps.{step-demand1}
-use Rattle.demand.proofs.Modes.{or-off}
 
 -- the rows whose classes g tells are those with the opcodes of l
 abbrev pub ByOpcodes : (Class → Bool) → List ℕ → Type 0
@@ -56,4 +56,4 @@ pub done-acts : (c : Control) (t w : ℕ) (s : State) → verdictOf c t w s ≡ 
 unfolding brokenRule rules operandRules
 done-acts c t w s e =
     let q = step-demand1 c t w s .unbroken e in
-    read-acts w (or-off (unknownOpcode w) _ (q UnknownOpcode) .0) (or-off (unnamedBit w) _ (q (UnnamedBit 0)) .0)
+    read-acts w (both-off (unknownOpcode w) _ (q UnknownOpcode) .0) (both-off (unnamedBit w) _ (q (UnnamedBit 0)) .0)

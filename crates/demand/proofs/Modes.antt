@@ -9,7 +9,7 @@ use borrow.Author.Tests.{eqb-true, not-true}
 use lib.Dec.{eqb}
 use Rattle.cells.specs.declared.Width.the-variants.{Bits32, Bits16}
 use Rattle.cells.specs.Places.{rowCount}
-use Rattle.cells.proofs.Cells.{split, both}
+use Rattle.cells.proofs.Cells.{split, both, both-off}
 use Rattle.word.specs.Word.{wordOperands}
 use Rattle.word.specs.Refusal.{numberOf}
 use Rattle.word.specs.declared.Refusal.{Refusal}
@@ -87,15 +87,11 @@ off false f n = refl
 
 -- ---- 5 exactly when neither mode is modelled
 
-pub or-off : (a b : Bool) → (a || b) ≡ false → (a ≡ false) × (b ≡ false)
-or-off true b h = absurd (false≢true (sym h))
-or-off false b h = (refl, h)
-
 module _ (c : Control) (w : ℕ) where
   neither : (unmodelled c (wordOperands w) || false) ≡ true → Unmodelled (c .settings) w
   neither h =
       let u = multiply-alone c (wordOperands w) (broken _ h) in
-      let b = or-off (fp32Mode (c .settings)) _ (u .settings) in
+      let b = both-off (fp32Mode (c .settings)) _ (u .settings) in
       record {
         multiply = u .multiply;
         word = u .is;

@@ -1,4 +1,7 @@
--- `control::halves::core_with` meets its contract. Assumes nothing.
+-- `control::halves::core_with` meets its contract: the banks are looked at only where a file is cleared. Assumes nothing.
+use mathlib.Core.Path.{_≡_}
+use mathlib.Core.Bool.{false}
+use Rattle.cells.proofs.Cells.{both-off}
 use borrow.Author.Needs.{needs}
 use Rattle.control.proofs.halves.core_with.Statement.{statement}
 use Rattle.control.proofs.halves.core_with.Tie as tie
@@ -19,7 +22,13 @@ clear-if-requires-2 : tie.Need-clear-if-requires-2
 clear-if-requires-2 c κs = search needs
 
 returns : tie.Need-returns
-returns c = simp ((c .clear-if2 .ensures), (c .before .clear-if .ensures), (c .before .before .chosen3 .ensures), (c .before .before .before .chosen2 .ensures), (c .before .before .before .before .chosen .ensures))
+returns c = simp (c .clear-if2 .ensures, c .before .clear-if .ensures, c .before .before .before .before .chosen3 .ensures, c .before .before .before .before .before .chosen2 .ensures, c .before .before .before .before .before .before .chosen .ensures)
+
+returns-2 : tie.Need-returns-2
+returns-2 c =
+    let args = c .before .before .before .before .before .before .before .before .before .before .before .args in
+    let off = both-off (args .clear .a) (args .clear .b) (c .if1 .left) in
+    simp (off .0, off .1, c .before .before .chosen3 .ensures, c .before .before .before .chosen2 .ensures, c .before .before .before .before .chosen .ensures)
 
 pub core-with-spec : {M : Type 1} → statement M
 core-with-spec =
@@ -30,4 +39,5 @@ core-with-spec =
     chosen-requires-3
     clear-if-requires
     clear-if-requires-2
-    returns)
+    returns
+    returns-2)
