@@ -1,90 +1,90 @@
--- Whatever the job, the record and the lent numbers, a caller gets the very answer back out of the packed number: `precheck-unpacked`,
--- `run-unpacked`, `step-unpacked`. For this, a place and a count are at most 8,192, and a bit below 24. An answer without a bit
--- is as it was before there were bits: `without-bit`. Assumes nothing.
+-- Whatever the job, the record and the lent numbers, a caller gets the very answer back out of the packed number: `precheck_unpacked`,
+-- `run_unpacked`, `step_unpacked`. For this, a place and a count are at most 8,192, and a bit below 24. An answer without a bit
+-- is as it was before there were bits: `without_bit`. Assumes nothing.
 use mathlib.Core.Path.{◌≡◌, refl}
 use mathlib.Core.List.{List}
 use mathlib.Core.Option.{Option, none}
 use Prim.Native.Nat.{ℕ, ◌+◌, ◌*◌, ◌/◌, ◌%◌, ◌<◌, ◌≤◌}
 use native.Mathlib.Omega.{arith}
 use borrow.Author.Tests.{lt-ltb, le-ltb, ne_eqb}
-use Rattle.cells.specs.Layout.{jobBytes}
-use Rattle.word.proofs.Numbers.{tabled, tabled-byte}
-use Rattle.word.specs.Refusal.{number_of, bit_of, bitNumber, Answer, passed, finished, refused}
+use Rattle.cells.specs.Layout.{job_bytes}
+use Rattle.word.proofs.Numbers.{tabled, tabled_byte}
+use Rattle.word.specs.Refusal.{number_of, bit_of, bit_number, Answer, passed, finished, refused}
 use Rattle.word.specs.declared.Refusal.{Refusal}
 use Rattle.control.specs.declared.Control.{Control}
-use Rattle.rules.specs.Rules.{verdictAnswer}
+use Rattle.rules.specs.Rules.{verdict_answer}
 use Rattle.rules.specs.declared.Verdict.{Verdict}
 use Rattle.rules.specs.declared.Verdict.TheVariants as verdict
 use Rattle.cells.specs.State.{State}
-use Rattle.step.specs.Step.{steppedOf, stepAnswer}
-use Rattle.precheck.specs.Check.{precheckOf, checkedAnswer, precheckAnswer}
+use Rattle.step.specs.Step.{stepped_of, step_answer}
+use Rattle.precheck.specs.Check.{precheck_of, checked_answer, precheck_answer}
 use Rattle.precheck.specs.declared.Checked.{Checked}
 use Rattle.precheck.specs.declared.Checked.TheVariants as checked
 use Rattle.run.specs.declared.Outcome.{Outcome}
 use Rattle.run.specs.declared.Outcome.TheVariants as outcome
-use Rattle.run.specs.Run.{run_of, outcomeAnswer, runAnswer}
-use Rattle.run.proofs.SmallAnswers.{SmallBit, Small, step_small, precheck-small, run_small}
-use Rattle.capi.specs.Packed.{refusalBit, numberUnit, bitUnit, packed, unpackedNumber, unpackedBit, unpackedRefusal, unpackedCount, unpackedCheck, unpackedRun, unpackedStep}
+use Rattle.run.specs.Run.{run_of, outcome_answer, run_answer}
+use Rattle.run.proofs.SmallAnswers.{SmallBit, Small, step_small, precheck_small, run_small}
+use Rattle.capi.specs.Packed.{refusal_bit, number_unit, bit_unit, packed, unpacked_number, unpacked_bit, unpacked_refusal, unpacked_count, unpacked_check, unpacked_run, unpacked_step}
 
 -- ---- one number
 
 -- the number of a refusal, whatever its place and bit
-pub number-unpacks : (number place : ℕ) (bit : Option ℕ) → number < 256 → unpackedNumber (packed (refused number place bit)) ≡ number
-number-unpacks number place bit i =
-    let b = bitNumber bit in
-    let x = refusalBit + b * bitUnit + number * numberUnit + place % numberUnit in
-    let q : x / numberUnit ≡ refusalBit / numberUnit + b * (bitUnit / numberUnit) + number = omega arith in
+pub number_unpacks : (number place : ℕ) (bit : Option ℕ) → number < 256 → unpacked_number (packed (refused number place bit)) ≡ number
+number_unpacks number place bit i =
+    let b = bit_number bit in
+    let x = refusal_bit + b * bit_unit + number * number_unit + place % number_unit in
+    let q : x / number_unit ≡ refusal_bit / number_unit + b * (bit_unit / number_unit) + number = omega arith in
     rw q (omega arith)
 
 -- a refusal, and that it is taken for one
-refusal-unpacks : (number place : ℕ) (bit : Option ℕ) → number < 256 → place ≤ jobBytes → SmallBit number bit
-    → (unpackedRefusal (packed (refused number place bit)) ≡ refused number place bit) × (refusalBit ≤ packed (refused number place bit))
-refusal-unpacks number place bit i j k =
-    let b = bitNumber bit in
-    let x = refusalBit + b * bitUnit + number * numberUnit + place % numberUnit in
-    let p : x % numberUnit ≡ place = omega arith in
-    let n : unpackedNumber x ≡ number = number-unpacks number place bit i in
-    let d : x / bitUnit ≡ refusalBit / bitUnit + b = omega arith in
-    let m : unpackedBit x ≡ b = rw d (omega (arith, k.1)) in
+refusal_unpacks : (number place : ℕ) (bit : Option ℕ) → number < 256 → place ≤ job_bytes → SmallBit number bit
+    → (unpacked_refusal (packed (refused number place bit)) ≡ refused number place bit) × (refusal_bit ≤ packed (refused number place bit))
+refusal_unpacks number place bit i j k =
+    let b = bit_number bit in
+    let x = refusal_bit + b * bit_unit + number * number_unit + place % number_unit in
+    let p : x % number_unit ≡ place = omega arith in
+    let n : unpacked_number x ≡ number = number_unpacks number place bit i in
+    let d : x / bit_unit ≡ refusal_bit / bit_unit + b = omega arith in
+    let m : unpacked_bit x ≡ b = rw d (omega (arith, k.1)) in
     (rw (p, n, m) (λ h. refused number place (k.0 h)), omega arith)
 
-pub without-bit : (number place : ℕ) → packed (refused number place none) ≡ refusalBit + number * numberUnit + place % numberUnit
-without-bit number place = omega arith
+pub without_bit : (number place : ℕ) → packed (refused number place none) ≡ refusal_bit + number * number_unit + place % number_unit
+without_bit number place = omega arith
 
 module _ (counted : ℕ → Answer) where
-  count-unpacks : (n : ℕ) → n ≤ jobBytes → unpackedCount counted n ≡ counted n
-  count-unpacks n s = rw (lt-ltb n refusalBit (omega arith))
+  count_unpacks : (n : ℕ) → n ≤ job_bytes → unpacked_count counted n ≡ counted n
+  count_unpacks n s = rw (lt-ltb n refusal_bit (omega arith))
 
-  refused-unpacks : (number place : ℕ) (bit : Option ℕ) → Small (refused number place bit)
-      → unpackedCount counted (packed (refused number place bit)) ≡ refused number place bit
-  refused-unpacks number place bit s =
-      let u = refusal-unpacks number place bit (tabled-byte number s.0) s.1 s.2 in
-      rw (le-ltb (packed (refused number place bit)) refusalBit u.1) u.0
+  refused_unpacks : (number place : ℕ) (bit : Option ℕ) → Small (refused number place bit)
+      → unpacked_count counted (packed (refused number place bit)) ≡ refused number place bit
+  refused_unpacks number place bit s =
+      let u = refusal_unpacks number place bit (tabled_byte number s.0) s.1 s.2 in
+      rw (le-ltb (packed (refused number place bit)) refusal_bit u.1) u.0
 
 -- ---- nothing is lost
 
-pub precheck-unpacked : (job : List ℕ) → unpackedCheck (packed (precheckAnswer job)) ≡ precheckAnswer job
-unfolding precheckAnswer
-precheck-unpacked job = go (precheckOf job) (precheck-small job)
+pub precheck_unpacked : (job : List ℕ) → unpacked_check (packed (precheck_answer job)) ≡ precheck_answer job
+unfolding precheck_answer
+precheck_unpacked job = go (precheck_of job) (precheck_small job)
   where
-    go : (x : Checked) → Small (checkedAnswer x) → unpackedCheck (packed (checkedAnswer x)) ≡ checkedAnswer x
-    go (checked.Passed n) s = count-unpacks passed n s
-    go (checked.Refused r place) s = refused-unpacks passed (number_of r) place (bit_of r) s
+    go : (x : Checked) → Small (checked_answer x) → unpacked_check (packed (checked_answer x)) ≡ checked_answer x
+    go (checked.Passed n) s = count_unpacks passed n s
+    go (checked.Refused r place) s = refused_unpacks passed (number_of r) place (bit_of r) s
 
-pub run-unpacked : (job : List ℕ) (s : State) → unpackedRun (packed (runAnswer job s)) ≡ runAnswer job s
-unfolding runAnswer
-run-unpacked job s = go (run_of job s).outcome (run_small job s)
+pub run_unpacked : (job : List ℕ) (s : State) → unpacked_run (packed (run_answer job s)) ≡ run_answer job s
+unfolding run_answer
+run_unpacked job s = go (run_of job s).outcome (run_small job s)
   where
-    go : (x : Outcome) → Small (outcomeAnswer x) → unpackedRun (packed (outcomeAnswer x)) ≡ outcomeAnswer x
-    go (outcome.Finished n) s = count-unpacks finished n s
-    go (outcome.Refused r place) s = refused-unpacks finished (number_of r) place (bit_of r) s
+    go : (x : Outcome) → Small (outcome_answer x) → unpacked_run (packed (outcome_answer x)) ≡ outcome_answer x
+    go (outcome.Finished n) s = count_unpacks finished n s
+    go (outcome.Refused r place) s = refused_unpacks finished (number_of r) place (bit_of r) s
 
-pub step-unpacked : (c : Control) (t w : ℕ) (s : State) → unpackedStep (packed (stepAnswer c t w s)) ≡ stepAnswer c t w s
-unfolding stepAnswer
-step-unpacked c t w s = go (steppedOf c t w s).verdict (step_small c t w s)
+pub step_unpacked : (c : Control) (t w : ℕ) (s : State) → unpacked_step (packed (step_answer c t w s)) ≡ step_answer c t w s
+unfolding step_answer
+step_unpacked c t w s = go (stepped_of c t w s).verdict (step_small c t w s)
   where
-    go : (v : Verdict) → ((r : Refusal) → v ≡ verdict.Refused r → SmallBit (number_of r) (bit_of r)) → unpackedStep (packed (verdictAnswer v)) ≡ verdictAnswer v
+    go : (v : Verdict) → ((r : Refusal) → v ≡ verdict.Refused r → SmallBit (number_of r) (bit_of r)) → unpacked_step (packed (verdict_answer v)) ≡ verdict_answer v
     go verdict.Done h = refl
     go (verdict.Refused r) h =
-        let u = refusal-unpacks (number_of r) 0 (bit_of r) (tabled-byte (number_of r) (tabled r)) (omega arith) (h r refl) in
+        let u = refusal_unpacks (number_of r) 0 (bit_of r) (tabled_byte (number_of r) (tabled r)) (omega arith) (h r refl) in
         rw (ne_eqb (packed (refused (number_of r) 0 (bit_of r))) 0 (λ e. omega (arith, u.1))) u.0

@@ -3,12 +3,12 @@ mod packing;
 
 ghost use Rattle.std.specs.Prelude.{◌≡◌};
 ghost use Rattle.cells.specs.State.{state};
-ghost use Rattle.numbers.specs.Record.{recordOf};
-ghost use Rattle.step.specs.Step.{state_of, stepAnswer};
-ghost use Rattle.precheck.specs.Check.{precheckAnswer};
-ghost use Rattle.run.specs.Run.{run_of, runAnswer};
+ghost use Rattle.numbers.specs.Record.{record_of};
+ghost use Rattle.step.specs.Step.{state_of, step_answer};
+ghost use Rattle.precheck.specs.Check.{precheck_answer};
+ghost use Rattle.run.specs.Run.{run_of, run_answer};
 ghost use Rattle.capi.specs.Packed.{packed};
-ghost use Rattle.capi.specs.Step.{threadByte, numbersAfter};
+ghost use Rattle.capi.specs.Step.{thread_byte, numbers_after};
 
 use packing::{pack_checked, pack_outcome, pack_verdict};
 use rules::Verdict;
@@ -18,7 +18,7 @@ const THREADS: u32 = cells::THREADS as u32;
 
 #[unsafe(no_mangle)]
 pub extern "C" fn vintrazzola_precheck(job: &[u8]) -> u64
-    ensures { result ≡ packed (precheckAnswer job.now) }
+    ensures { result ≡ packed (precheck_answer job.now) }
 {
     pack_checked(precheck::precheck(job))
 }
@@ -31,7 +31,7 @@ pub extern "C" fn vintrazzola_run(
     dst: &mut [u32],
     registers: &mut [u32],
 ) -> u64
-    ensures { (result ≡ packed (runAnswer job.now (state srca.old srcb.old dst.old registers.old)))
+    ensures { (result ≡ packed (run_answer job.now (state srca.old srcb.old dst.old registers.old)))
         × (state srca.new srcb.new dst.new registers.new
         ≡ (run_of job.now (state srca.old srcb.old dst.old registers.old)).state) }
 {
@@ -40,7 +40,7 @@ pub extern "C" fn vintrazzola_run(
 
 // The thread in a byte: any thread out of range becomes the first of these.
 fn thread_byte(thread: u32) -> u8
-    ensures { result ≡ threadByte thread }
+    ensures { result ≡ thread_byte thread }
 {
     if thread < THREADS {
         return thread as u8;
@@ -58,10 +58,10 @@ pub extern "C" fn vintrazzola_step(
     dst: &mut [u32],
     registers: &mut [u32],
 ) -> u64
-    ensures { (result ≡ packed (stepAnswer (recordOf numbers.old) thread word (state srca.old srcb.old dst.old registers.old)))
+    ensures { (result ≡ packed (step_answer (record_of numbers.old) thread word (state srca.old srcb.old dst.old registers.old)))
         × (state srca.new srcb.new dst.new registers.new
-        ≡ state_of (recordOf numbers.old) thread word (state srca.old srcb.old dst.old registers.old))
-        × (numbers.new ≡ numbersAfter numbers.old thread word (state srca.old srcb.old dst.old registers.old)) }
+        ≡ state_of (record_of numbers.old) thread word (state srca.old srcb.old dst.old registers.old))
+        × (numbers.new ≡ numbers_after numbers.old thread word (state srca.old srcb.old dst.old registers.old)) }
 {
     let before = numbers::read(numbers);
     let stepped = step::step(

@@ -1,9 +1,9 @@
 // Each answer packed into one number.
 ghost use Rattle.std.specs.Prelude.{◌≡◌};
 ghost use Rattle.word.specs.Refusal.{answer_of};
-ghost use Rattle.rules.specs.Rules.{verdictAnswer};
-ghost use Rattle.precheck.specs.Check.{checkedAnswer};
-ghost use Rattle.run.specs.Run.{outcomeAnswer};
+ghost use Rattle.rules.specs.Rules.{verdict_answer};
+ghost use Rattle.precheck.specs.Check.{checked_answer};
+ghost use Rattle.run.specs.Run.{outcome_answer};
 ghost use Rattle.capi.specs.Packed.{packed};
 
 use precheck::Checked;
@@ -29,7 +29,7 @@ fn pack_refusal(refusal: Refusal, place: usize) -> u64
 }
 
 pub(crate) fn pack_checked(checked: Checked) -> u64
-    ensures { result ≡ packed (checkedAnswer checked) }
+    ensures { result ≡ packed (checked_answer checked) }
 {
     match checked {
         Checked::Passed(count) => count as u64,
@@ -38,7 +38,7 @@ pub(crate) fn pack_checked(checked: Checked) -> u64
 }
 
 pub(crate) fn pack_outcome(outcome: Outcome) -> u64
-    ensures { result ≡ packed (outcomeAnswer outcome) }
+    ensures { result ≡ packed (outcome_answer outcome) }
 {
     match outcome {
         Outcome::Finished(count) => count as u64,
@@ -47,7 +47,7 @@ pub(crate) fn pack_outcome(outcome: Outcome) -> u64
 }
 
 pub(crate) fn pack_verdict(verdict: Verdict) -> u64
-    ensures { result ≡ packed (verdictAnswer verdict) }
+    ensures { result ≡ packed (verdict_answer verdict) }
 {
     match verdict {
         Verdict::Done => 0,

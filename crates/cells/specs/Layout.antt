@@ -4,65 +4,65 @@ use Rattle.std.specs.Prelude.{ℕ, ◌+◌, ◌*◌, ◌^◌}
 use Rattle.cells.specs.declared.layout.Span.{Span}
 
 -- sixteen numbers to a row
-abbrev pub columnCount : ℕ
-columnCount = 16
+abbrev pub column_count : ℕ
+column_count = 16
 
 -- SrcA and SrcB: 2 banks of 64 rows
-abbrev pub bankCount : ℕ
-bankCount = 2
+abbrev pub bank_count : ℕ
+bank_count = 2
 
-abbrev pub bankRows : ℕ
-bankRows = 64
+abbrev pub bank_rows : ℕ
+bank_rows = 64
 
 -- Dst: 512 lent rows
-abbrev pub dstRows : ℕ
-dstRows = 512
+abbrev pub dst_rows : ℕ
+dst_rows = 512
 
 -- registers: 3 threads of 64
-abbrev pub threadCount : ℕ
-threadCount = 3
+abbrev pub thread_count : ℕ
+thread_count = 3
 
-abbrev pub threadRegisters : ℕ
-threadRegisters = 64
+abbrev pub thread_registers : ℕ
+thread_registers = 64
 
 -- a Src value is below 2^19
-abbrev pub srcLimit : ℕ
-srcLimit = 2 ^ 19
+abbrev pub src_limit : ℕ
+src_limit = 2 ^ 19
 
 -- a job has at most 8,192 bytes
-abbrev pub jobBytes : ℕ
-jobBytes = 8192
+abbrev pub job_bytes : ℕ
+job_bytes = 8192
 
 -- ---- what follows
 
-abbrev pub srcRows : ℕ
-srcRows = bankCount * bankRows
+abbrev pub src_rows : ℕ
+src_rows = bank_count * bank_rows
 
-abbrev pub srcNumbers : ℕ
-srcNumbers = srcRows * columnCount
+abbrev pub src_numbers : ℕ
+src_numbers = src_rows * column_count
 
-abbrev pub dstNumbers : ℕ
-dstNumbers = dstRows * columnCount
+abbrev pub dst_numbers : ℕ
+dst_numbers = dst_rows * column_count
 
-abbrev pub registerCount : ℕ
-registerCount = threadCount * threadRegisters
+abbrev pub register_count : ℕ
+register_count = thread_count * thread_registers
 
 -- ---- places, counted from the start of a file
 
 -- row r of bank p
-abbrev pub bankRow : ℕ → ℕ → ℕ
-bankRow p r = p * bankRows + r
+abbrev pub bank_row : ℕ → ℕ → ℕ
+bank_row p r = p * bank_rows + r
 
 -- register r of thread t
 abbrev pub register : ℕ → ℕ → ℕ
-register t r = t * threadRegisters + r
+register t r = t * thread_registers + r
 
 -- the first number of row r, and the one in its column j
-abbrev pub rowStart : ℕ → ℕ
-rowStart r = r * columnCount
+abbrev pub row_start : ℕ → ℕ
+row_start r = r * column_count
 
 abbrev pub cell : ℕ → ℕ → ℕ
-cell r j = rowStart r + j
+cell r j = row_start r + j
 
 -- ---- spans of rows or registers
 
@@ -70,13 +70,13 @@ abbrev pub span : ℕ → ℕ → Span
 span first count = record { first = first; count = count }
 
 -- no row at all
-abbrev pub noSpan : Span
-noSpan = span 0 0
+abbrev pub no_span : Span
+no_span = span 0 0
 
 -- all rows of bank p
-abbrev pub bankSpan : ℕ → Span
-bankSpan p = span (bankRow p 0) bankRows
+abbrev pub bank_span : ℕ → Span
+bank_span p = span (bank_row p 0) bank_rows
 
 -- register r of thread t, alone
-abbrev pub oneRegister : ℕ → ℕ → Span
-oneRegister t r = span (register t r) 1
+abbrev pub one_register : ℕ → ℕ → Span
+one_register t r = span (register t r) 1

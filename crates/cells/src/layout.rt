@@ -1,6 +1,6 @@
 // The sizes of the lent files and of a job, each once, and where a row or a register stands in its file.
 ghost use Rattle.std.specs.Prelude.{◌≡◌};
-ghost use Rattle.cells.specs.Layout.{bankRow, register, rowStart, noSpan, bankSpan};
+ghost use Rattle.cells.specs.Layout.{bank_row, register, row_start, no_span, bank_span};
 
 // Numbers to a row.
 pub const COLUMNS: usize = 16;
@@ -49,7 +49,7 @@ pub struct Span {
 
 // Row `row` of a bank, counted from the start of its file.
 pub fn bank_row(bank: u8, row: u8) -> u32
-    ensures { result ≡ bankRow bank row }
+    ensures { result ≡ bank_row bank row }
 {
     bank as u32 * BANK_ROWS + row as u32
 }
@@ -63,20 +63,20 @@ pub fn register_at(thread: u8, r: u8) -> u32
 
 // The place of a row's first number.
 pub fn row_start(row: u32) -> usize
-    ensures { result ≡ rowStart row }
+    ensures { result ≡ row_start row }
 {
     row as usize * COLUMNS
 }
 
 pub fn no_span() -> Span
-    ensures { result ≡ noSpan }
+    ensures { result ≡ no_span }
 {
     Span { first: 0, count: 0 }
 }
 
 // All rows of a bank.
 pub fn bank_span(bank: u8) -> Span
-    ensures { result ≡ bankSpan bank }
+    ensures { result ≡ bank_span bank }
 {
     Span {
         first: bank_row(bank, 0),

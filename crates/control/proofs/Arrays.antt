@@ -10,10 +10,10 @@ use lib.ListN.{length, get_or}
 use Rattle.cells.specs.Tests.{below}
 
 -- inside a list no default is read
-pub getD-in : {A : Type 0} (l : List A) (d e : A) (i : ℕ) → i < length l → get_or l i d ≡ get_or l i e
-getD-in [] d e i h = absurd (not-suc-le-zero h)
-getD-in (x ∷ xs) d e zero h = refl
-getD-in (x ∷ xs) d e (suc i) h = getD-in xs d e i (le_of_suc-le-suc h)
+pub get_d_in : {A : Type 0} (l : List A) (d e : A) (i : ℕ) → i < length l → get_or l i d ≡ get_or l i e
+get_d_in [] d e i h = absurd (not-suc-le-zero h)
+get_d_in (x ∷ xs) d e zero h = refl
+get_d_in (x ∷ xs) d e (suc i) h = get_d_in xs d e i (le_of_suc-le-suc h)
 
 -- a loop that joins the tests of n entries, before entry i
 pub record Passed (f : ℕ → Bool) (n : ℕ) (all : Bool) (i : ℕ) : Type 0 where
@@ -24,9 +24,9 @@ pub passed_none : (f : ℕ → Bool) (n : ℕ) → Passed f n true 0
 passed_none f n = record { so_far = refl; inside = omega arith }
 
 -- a turn of it
-pub passed-more : {f : ℕ → Bool} {n : ℕ} {all : Bool} {i : ℕ} {b : Bool} → Passed f n all i → i < n → b ≡ f i → Passed f n (all && b) (i + 1)
-passed-more p l q = record { so_far = rw (p.so_far, q, add-one); inside = omega arith }
+pub passed_more : {f : ℕ → Bool} {n : ℕ} {all : Bool} {i : ℕ} {b : Bool} → Passed f n all i → i < n → b ≡ f i → Passed f n (all && b) (i + 1)
+passed_more p l q = record { so_far = rw (p.so_far, q, add-one); inside = omega arith }
 
 -- and its end
-pub passed-all : {f : ℕ → Bool} {n : ℕ} {all : Bool} {i : ℕ} → Passed f n all i → n ≤ i → all ≡ below f n
-passed-all {n = n} {i = i} p l = let e : i ≡ n = omega arith in p.so_far ∙ rw e
+pub passed_all : {f : ℕ → Bool} {n : ℕ} {all : Bool} {i : ℕ} → Passed f n all i → n ≤ i → all ≡ below f n
+passed_all {n = n} {i = i} p l = let e : i ≡ n = omega arith in p.so_far ∙ rw e

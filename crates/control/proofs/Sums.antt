@@ -8,8 +8,8 @@ use lib.Dec.{ltb}
 use borrow.Author.Tests.{lt-ltb}
 
 -- the sum of two numbers, each taken modulo m first, is their sum modulo m
-pub mod-sum : (m x y : ℕ) → (x % m + y % m) % m ≡ (x + y) % m
-mod-sum m x y = mod-add-mod x m (y % m) ∙ add-mod-mod x y m
+pub mod_sum : (m x y : ℕ) → (x % m + y % m) % m ≡ (x + y) % m
+mod_sum m x y = mod-add-mod x m (y % m) ∙ add-mod-mod x y m
 
 -- what wraps is in range
 pub wraps : (m : ℕ) → 0 < m → (n : ℕ) → ltb (n % m) m ≡ true

@@ -1,7 +1,7 @@
 // What becomes of the record: clear and hand over, the slot, SETRWC and INCRWC.
 ghost use Rattle.std.specs.Prelude.{◌≡◌, cond};
-ghost use Rattle.control.specs.Change.{otherBank, ownerSet, flipped, cleared, clearedIf, handOver, stepSrc, stepDst, stepPhase, applySlot, setSrc, setDst, setThread, addThread};
-ghost use Rattle.control.specs.Halves.{Choice, threadOf};
+ghost use Rattle.control.specs.Change.{other_bank, owner_set, flipped, cleared, cleared_if, hand_over, step_src, step_dst, step_phase, apply_slot, set_src, set_dst, set_thread, add_thread};
+ghost use Rattle.control.specs.Halves.{Choice, thread_of};
 
 use crate::record::{zero_dst, zero_src};
 use crate::{Banks, Counter6, Counter10, Dst, DstStep, Own, PhaseStep, Slot, Src, SrcStep};
@@ -10,7 +10,7 @@ use word::Which;
 // ---- clear and hand over
 
 fn owner_set(b: Banks, bank: u8, matrix: bool) -> Banks
-    ensures { result ≡ ownerSet b bank matrix }
+    ensures { result ≡ owner_set b bank matrix }
 {
     let mut r = b;
     if bank == 0 {
@@ -22,7 +22,7 @@ fn owner_set(b: Banks, bank: u8, matrix: bool) -> Banks
 }
 
 fn other_bank(bank: u8) -> u8
-    ensures { result ≡ otherBank bank }
+    ensures { result ≡ other_bank bank }
 {
     if bank == 0 {
         return 1;
@@ -50,7 +50,7 @@ fn clear(b: Banks, keep: bool) -> Banks
 }
 
 pub(crate) fn clear_if(b: Banks, on: bool, keep: bool) -> Banks
-    ensures { result ≡ clearedIf b on keep }
+    ensures { result ≡ cleared_if b on keep }
 {
     if on {
         return clear(b, keep);
@@ -60,7 +60,7 @@ pub(crate) fn clear_if(b: Banks, on: bool, keep: bool) -> Banks
 
 // The bank at the unpackers' pointer becomes the matrix unit's, and their pointer moves to the other bank.
 pub fn hand_over(b: Banks) -> Banks
-    ensures { result ≡ handOver b }
+    ensures { result ≡ hand_over b }
 {
     let mut r = owner_set(b, b.unpack, true);
     r.unpack = other_bank(b.unpack);
@@ -70,7 +70,7 @@ pub fn hand_over(b: Banks) -> Banks
 // ---- slot
 
 fn step_src(s: Src, by: SrcStep) -> Src
-    ensures { result ≡ stepSrc s by }
+    ensures { result ≡ step_src s by }
 {
     if by.clear {
         return zero_src();
@@ -89,7 +89,7 @@ fn step_src(s: Src, by: SrcStep) -> Src
 }
 
 fn step_dst(d: Dst, by: DstStep) -> Dst
-    ensures { result ≡ stepDst d by }
+    ensures { result ≡ step_dst d by }
 {
     if by.clear {
         return zero_dst();
@@ -112,7 +112,7 @@ fn step_dst(d: Dst, by: DstStep) -> Dst
 }
 
 fn step_phase(phase: u8, by: PhaseStep) -> u8
-    ensures { result ≡ stepPhase phase by }
+    ensures { result ≡ step_phase phase by }
 {
     if by.clear {
         return 0;
@@ -122,7 +122,7 @@ fn step_phase(phase: u8, by: PhaseStep) -> u8
 
 // The address slots are any, here and below.
 pub fn apply_slot(x: Own, s: Slot) -> Own
-    ensures { (h : Choice) → threadOf result h ≡ applySlot (threadOf x h) s }
+    ensures { (h : Choice) → thread_of result h ≡ apply_slot (thread_of x h) s }
 {
     let d = x.dst;
     let a = x.a;
@@ -144,7 +144,7 @@ pub fn apply_slot(x: Own, s: Slot) -> Own
 // ---- SETRWC and INCRWC
 
 fn set_src(s: Src, on: bool, v: u32) -> Src
-    ensures { result ≡ setSrc s on v }
+    ensures { result ≡ set_src s on v }
 {
     if on {
         let n = Counter6::of(v);
@@ -154,7 +154,7 @@ fn set_src(s: Src, on: bool, v: u32) -> Src
 }
 
 fn set_dst(d: Dst, on: bool, v: u32) -> Dst
-    ensures { result ≡ setDst d on v }
+    ensures { result ≡ set_dst d on v }
 {
     if on {
         let n = Counter10::of(v);
@@ -173,7 +173,7 @@ fn set_phase(phase: u8, on: bool) -> u8
 }
 
 pub fn set_counters(x: Own, which: Which, d: u32, b: u32, a: u32) -> Own
-    ensures { (h : Choice) → threadOf result h ≡ setThread (threadOf x h) which d b a }
+    ensures { (h : Choice) → thread_of result h ≡ set_thread (thread_of x h) which d b a }
 {
     let old_d = x.dst;
     let old_a = x.a;
@@ -189,7 +189,7 @@ pub fn set_counters(x: Own, which: Which, d: u32, b: u32, a: u32) -> Own
 }
 
 pub fn add_counters(x: Own, d: u32, b: u32, a: u32) -> Own
-    ensures { (h : Choice) → threadOf result h ≡ addThread (threadOf x h) d b a }
+    ensures { (h : Choice) → thread_of result h ≡ add_thread (thread_of x h) d b a }
 {
     let mut new_d = x.dst;
     let mut new_a = x.a;

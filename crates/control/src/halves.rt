@@ -1,7 +1,7 @@
 // The core of the record: taken from it and put back, and its threads.
 ghost use Rattle.std.specs.Prelude.{◌≡◌, cond};
-ghost use Rattle.control.specs.Record.{startThread};
-ghost use Rattle.control.specs.Halves.{own_of, choice_of, threadOf, core_of, choicesOf, joined, own_at, coreWith, startCore};
+ghost use Rattle.control.specs.Record.{start_thread};
+ghost use Rattle.control.specs.Halves.{own_of, choice_of, thread_of, core_of, choices_of, joined, own_at, core_with, start_core};
 
 use crate::change::clear_if;
 use crate::record::{start_banks, start_settings, zero_dst, zero_src};
@@ -9,7 +9,7 @@ use crate::{Control, Core, Own, Thread};
 use word::Clear;
 
 fn start_own() -> Own
-    ensures { result ≡ own_of startThread }
+    ensures { result ≡ own_of start_thread }
 {
     let src = zero_src();
     let dst = zero_dst();
@@ -25,7 +25,7 @@ fn start_own() -> Own
 
 // The core before any field acts.
 pub fn start_core() -> Core
-    ensures { result ≡ startCore }
+    ensures { result ≡ start_core }
 {
     let settings = start_settings();
     let own = start_own();
@@ -81,7 +81,7 @@ pub fn core_of(c: Control) -> Core
 }
 
 fn thread_with(x: Thread, o: Own) -> Thread
-    ensures { result ≡ threadOf o (choice_of x) }
+    ensures { result ≡ thread_of o (choice_of x) }
 {
     let mut r = x;
     let dst = o.dst;
@@ -98,7 +98,7 @@ fn thread_with(x: Thread, o: Own) -> Thread
 
 // The record with another core; the address slots stay.
 pub fn with_core(c: Control, k: Core) -> Control
-    ensures { result ≡ joined k (choicesOf c) }
+    ensures { result ≡ joined k (choices_of c) }
 {
     let old = c.threads;
     let settings = k.settings;
@@ -145,7 +145,7 @@ fn chosen(on: bool, new: Own, old: Own) -> Own
 // The core with a thread's own numbers anew, the banks after a clear, and the last SrcA row. It is written out field by field: so it stands in its callers'
 // code, and nothing of the core goes through memory. Most instructions clear no file, and then the banks and the switches are not looked at.
 pub fn core_with(k: Core, thread: u8, own: Own, clear: Clear, last: u8) -> Core
-    ensures { result ≡ coreWith k thread own clear last }
+    ensures { result ≡ core_with k thread own clear last }
 {
     let settings = k.settings;
     let old_x = k.x;

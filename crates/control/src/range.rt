@@ -1,29 +1,29 @@
 // When a record is in range.
 ghost use Rattle.std.specs.Prelude.{◌≡◌};
-ghost use Rattle.control.specs.Range.{srcOk, dstOk, slotOk, slotsOk, threadOk, threadsOk, banksOk, settingsOk, lastOk, in_range};
+ghost use Rattle.control.specs.Range.{src_ok, dst_ok, slot_ok, slots_ok, thread_ok, threads_ok, banks_ok, settings_ok, last_ok, in_range};
 
 use crate::{Banks, Control, Dst, SLOTS, Settings, Slot, Src, THREADS, Thread};
 
 fn src_ok(s: Src) -> bool
-    ensures { result ≡ srcOk s }
+    ensures { result ≡ src_ok s }
 {
     (s.at.0 < 64) & (s.carry.0 < 64)
 }
 
 fn dst_ok(d: Dst) -> bool
-    ensures { result ≡ dstOk d }
+    ensures { result ≡ dst_ok d }
 {
     (d.at.0 < 1024) & (d.carry.0 < 1024)
 }
 
 pub fn slot_ok(s: Slot) -> bool
-    ensures { result ≡ slotOk s }
+    ensures { result ≡ slot_ok s }
 {
     (s.a.step.0 < 64) & (s.b.step.0 < 64) & (s.dst.step.0 < 1024) & (s.phase.step < 4)
 }
 
 fn slots_ok(slots: [Slot; SLOTS]) -> bool
-    ensures { result ≡ slotsOk slots }
+    ensures { result ≡ slots_ok slots }
 {
     let mut all = true;
     for i in 0..SLOTS {
@@ -33,7 +33,7 @@ fn slots_ok(slots: [Slot; SLOTS]) -> bool
 }
 
 fn thread_ok(x: Thread) -> bool
-    ensures { result ≡ threadOk x }
+    ensures { result ≡ thread_ok x }
 {
     let d = x.dst;
     let a = x.a;
@@ -49,7 +49,7 @@ fn thread_ok(x: Thread) -> bool
 }
 
 fn threads_ok(threads: [Thread; THREADS]) -> bool
-    ensures { result ≡ threadsOk threads }
+    ensures { result ≡ threads_ok threads }
 {
     let x = threads[0];
     let y = threads[1];
@@ -58,19 +58,19 @@ fn threads_ok(threads: [Thread; THREADS]) -> bool
 }
 
 fn banks_ok(b: Banks) -> bool
-    ensures { result ≡ banksOk b }
+    ensures { result ≡ banks_ok b }
 {
     ((b.matrix as u32) < cells::BANKS) & ((b.unpack as u32) < cells::BANKS)
 }
 
 pub fn settings_ok(s: Settings) -> bool
-    ensures { result ≡ settingsOk s }
+    ensures { result ≡ settings_ok s }
 {
     (s.format < 14) & (s.base < 1024)
 }
 
 fn last_ok(last: u8) -> bool
-    ensures { result ≡ lastOk last }
+    ensures { result ≡ last_ok last }
 {
     (last == 0) | (last == 16) | (last == 32) | (last == 48)
 }

@@ -1,6 +1,6 @@
 // The record at the start, its parts, and the width of Dst's rows.
 ghost use Rattle.std.specs.Prelude.{◌≡◌};
-ghost use Rattle.control.specs.Record.{bf16Mode, widthFrom, width_of, zeroSrc, zeroDst, zeroSlot, startThread, startSettings, startBanks, start, threadAt, slotUsed, ownedAt, matrixOwns, matrixOwnsNext};
+ghost use Rattle.control.specs.Record.{bf16_mode, width_from, width_of, zero_src, zero_dst, zero_slot, start_thread, start_settings, start_banks, start, thread_at, slot_used, owned_at, matrix_owns, matrix_owns_next};
 
 use crate::{
     Banks, Control, Counter6, Counter10, Dst, DstStep, Keep, PhaseStep, SLOTS, Settings, Slot, Src,
@@ -11,7 +11,7 @@ use cells::Width;
 // ---- at the start
 
 pub(crate) fn zero_src() -> Src
-    ensures { result ≡ zeroSrc }
+    ensures { result ≡ zero_src }
 {
     Src {
         at: Counter6(0),
@@ -20,7 +20,7 @@ pub(crate) fn zero_src() -> Src
 }
 
 pub(crate) fn zero_dst() -> Dst
-    ensures { result ≡ zeroDst }
+    ensures { result ≡ zero_dst }
 {
     Dst {
         at: Counter10(0),
@@ -30,7 +30,7 @@ pub(crate) fn zero_dst() -> Dst
 
 // A slot that changes nothing.
 pub fn zero_slot() -> Slot
-    ensures { result ≡ zeroSlot }
+    ensures { result ≡ zero_slot }
 {
     let src = SrcStep {
         step: Counter6(0),
@@ -56,7 +56,7 @@ pub fn zero_slot() -> Slot
 }
 
 pub fn start_thread() -> Thread
-    ensures { result ≡ startThread }
+    ensures { result ≡ start_thread }
 {
     let src = zero_src();
     let dst = zero_dst();
@@ -74,7 +74,7 @@ pub fn start_thread() -> Thread
 }
 
 pub(crate) fn start_settings() -> Settings
-    ensures { result ≡ startSettings }
+    ensures { result ≡ start_settings }
 {
     let keep = Keep { a: false, b: false };
     Settings {
@@ -88,7 +88,7 @@ pub(crate) fn start_settings() -> Settings
 }
 
 pub(crate) fn start_banks() -> Banks
-    ensures { result ≡ startBanks }
+    ensures { result ≡ start_banks }
 {
     Banks {
         matrix: 0,
@@ -117,7 +117,7 @@ pub fn start_record() -> Control
 // ---- the parts
 
 pub fn thread_at(c: Control, thread: u8) -> Thread
-    ensures { result ≡ threadAt c thread }
+    ensures { result ≡ thread_at c thread }
 {
     match thread {
         0 => c.threads[0],
@@ -129,7 +129,7 @@ pub fn thread_at(c: Control, thread: u8) -> Thread
 
 // The slot that a two-bit number names: plus 4 when the extra bit is 1.
 pub fn slot_used(x: Thread, n: u32) -> Slot
-    ensures { result ≡ slotUsed x n }
+    ensures { result ≡ slot_used x n }
 {
     let mut i = n as usize;
     if x.extra {
@@ -142,7 +142,7 @@ pub fn slot_used(x: Thread, n: u32) -> Slot
 }
 
 fn owned_at(b: Banks, bank: u8) -> bool
-    ensures { result ≡ ownedAt b bank }
+    ensures { result ≡ owned_at b bank }
 {
     if bank == 0 {
         return b.owned0;
@@ -152,13 +152,13 @@ fn owned_at(b: Banks, bank: u8) -> bool
 
 // Whether the matrix unit owns the bank at its own pointer, and the one at the unpackers'.
 pub fn matrix_owns(b: Banks) -> bool
-    ensures { result ≡ matrixOwns b }
+    ensures { result ≡ matrix_owns b }
 {
     owned_at(b, b.matrix)
 }
 
 pub fn matrix_owns_next(b: Banks) -> bool
-    ensures { result ≡ matrixOwnsNext b }
+    ensures { result ≡ matrix_owns_next b }
 {
     owned_at(b, b.unpack)
 }
@@ -167,13 +167,13 @@ pub fn matrix_owns_next(b: Banks) -> bool
 
 // Fp32, INT8 and FP16A force off and format 2.
 fn bf16_mode(format: u32, fp32: bool, int8: bool, fp16a: bool) -> bool
-    ensures { result ≡ bf16Mode format fp32 int8 fp16a }
+    ensures { result ≡ bf16_mode format fp32 int8 fp16a }
 {
     !fp32 & !int8 & !fp16a & (format == 2)
 }
 
 pub fn width_from(format: u32, fp32: bool, int8: bool, fp16a: bool) -> Width
-    ensures { result ≡ widthFrom format fp32 int8 fp16a }
+    ensures { result ≡ width_from format fp32 int8 fp16a }
 {
     if bf16_mode(format, fp32, int8, fp16a) {
         return Width::Bits16;

@@ -9,7 +9,7 @@ use lib.Dec.{leb, ltb}
 use lib.Pow.{pow-add, pow_mono, shl_lt}
 use Rattle.cells.proofs.Cells.{both}
 use Rattle.datum.specs.Part.{bits_of}
-use Rattle.datum.proofs.Places.{exponent-at}
+use Rattle.datum.proofs.Places.{exponent_at}
 use Rattle.datum.proofs.Parts.{built}
 
 -- ---- five doublings
@@ -70,8 +70,8 @@ abbrev pub five : ℕ → ℕ
 five n = twice (twice (twice (twice (twice n))))
 
 -- a chain of five
-pub in-turn : (n a b c d r : ℕ) → a ≡ twice n → b ≡ twice a → c ≡ twice b → d ≡ twice c → r ≡ twice d → r ≡ five n
-in-turn n a b c d z p q r s t = t ∙ ap twice (s ∙ ap twice (r ∙ ap twice (q ∙ ap twice p)))
+pub in_turn : (n a b c d r : ℕ) → a ≡ twice n → b ≡ twice a → c ≡ twice b → d ≡ twice c → r ≡ twice d → r ≡ five n
+in_turn n a b c d z p q r s t = t ∙ ap twice (s ∙ ap twice (r ∙ ap twice (q ∙ ap twice p)))
 
 placed : (n : ℕ) → n < 64 → Placed n 5 (five n)
 placed n h = once_more n 4 _ (once_more n 3 _ (once_more n 2 _ (once_more n 1 _ (once_more n 0 n (none n h)))))
@@ -84,7 +84,7 @@ pub record Normal (n e : ℕ) : Type 0 where
   pub most : s ≤ 11
   pub above : 2048 ≤ n * 2 ^ s
   pub below : n * 2 ^ s < 4096
-  pub five-is : five n * 64 ≡ n * 2 ^ s + (11 - s) * 2048
+  pub five_is : five n * 64 ≡ n * 2 ^ s + (11 - s) * 2048
 
 pub is_normal : (n e : ℕ) → 0 < n → n < 64 → (e ≤ 10 → 2048 ≤ n * 2 ^ e) → Normal n e
 is_normal n e n0 n1 big =
@@ -97,11 +97,11 @@ is_normal n e n0 n1 big =
     record {
       s = p.times + 6;
       some = omega arith;
-      held = in-time (p.times + 6) (omega (arith, p.most)) below (leb (p.times + 6) e) refl;
+      held = in_time (p.times + 6) (omega (arith, p.most)) below (leb (p.times + 6) e) refl;
       most = omega (arith, p.most);
       above = above;
       below = below;
-      five-is = omega (arith, all, p.rest, p.most);
+      five_is = omega (arith, all, p.rest, p.most);
     }
   where
     at_least : (p : Placed n 5 (five n)) (b : Bool) → ltb p.times 5 ≡ b → 32 ≤ p.digits
@@ -111,40 +111,40 @@ is_normal n e n0 n1 big =
         let d : p.digits ≡ n * 2 ^ 5 = p.are ∙ ap (λ (z : ℕ). n * 2 ^ z) is in
         omega (arith, d)
 
-    in-time : (s : ℕ) → s ≤ 11 → n * 2 ^ s < 4096 → (b : Bool) → leb s e ≡ b → s ≤ e
-    in-time s l m true t = leb-true s e t
-    in-time s l m false t =
+    in_time : (s : ℕ) → s ≤ 11 → n * 2 ^ s < 4096 → (b : Bool) → leb s e ≡ b → s ≤ e
+    in_time s l m true t = leb-true s e t
+    in_time s l m false t =
         let k : e < s = leb-false s e t in
         let more : n * 2 ^ suc e ≤ n * 2 ^ s = mul-le-mul_left n (pow_mono {i = suc e} {j = s} (omega arith)) in
         absurd (lt_irrefl 4096 (omega (arith, more, big (omega arith), doubles n e)))
 
 -- ---- what `low` returns
 
-pub normal-built : (c n : ℕ) → c < 512 → c % 256 < 255 → 0 < n → n < 64 → Normal n (c % 256)
+pub normal_built : (c n : ℕ) → c < 512 → c % 256 < 255 → 0 < n → n < 64 → Normal n (c % 256)
     → (c * 1024 + five n * 32 - 11 * 1024) * 8192 ≡ bits_of (leb 256 c) n (c % 256)
-normal-built c n H e1 n0 n1 p =
-    let same : (c * 1024 + five n * 32 - 11 * 1024) * 8192 ≡ (c - p.s) * 8388608 + n * 2 ^ p.s * 4096 = omega (arith, p.held, p.most, p.five-is) in
+normal_built c n H e1 n0 n1 p =
+    let same : (c * 1024 + five n * 32 - 11 * 1024) * 8192 ≡ (c - p.s) * 8388608 + n * 2 ^ p.s * 4096 = omega (arith, p.held, p.most, p.five_is) in
     same ∙ built c n p.s H e1 n0 (omega arith) p.some p.held p.below (λ k. absurd (lt_irrefl 2048 (lt_of_le_of_lt p.above k)))
 
-pub subnormal-built : (c n : ℕ) → c < 512 → 0 < c % 256 → c % 256 < 255 → 0 < n → n < 64 → n * 2 ^ (c % 256) < 2048
+pub subnormal_built : (c n : ℕ) → c < 512 → 0 < c % 256 → c % 256 < 255 → 0 < n → n < 64 → n * 2 ^ (c % 256) < 2048
     → c / 256 * 2147483648 + n * 2 ^ (c % 256) * 4096 ≡ bits_of (leb 256 c) n (c % 256)
-subnormal-built c n H e0 e1 n0 n1 l =
+subnormal_built c n H e0 e1 n0 n1 l =
     let same : c / 256 * 2147483648 + n * 2 ^ (c % 256) * 4096 ≡ (c - c % 256) * 8388608 + n * 2 ^ (c % 256) * 4096 = omega arith in
     same ∙ built c n (c % 256) H e1 n0 (omega arith) e0 (omega arith) (omega arith) (λ k. refl)
 
 -- ---- the test for a subnormal low part
 
 -- no digit is lost where the exponent is at most 10
-units-fit : (n e : ℕ) → n < 64 → e ≤ 10 → n * 2 ^ e % 4294967296 ≡ n * 2 ^ e
-units-fit n e h k =
+units_fit : (n e : ℕ) → n < 64 → e ≤ 10 → n * 2 ^ e % 4294967296 ≡ n * 2 ^ e
+units_fit n e h k =
     let below : n * 2 ^ e < 2 ^ (6 + e) = shl_lt 6 e h in
     let fits : 2 ^ (6 + e) ≤ 2 ^ 16 = pow_mono {i = 6 + e} {j = 16} (omega arith) in
     omega (arith, below, fits)
 
-units-at : (h n : ℕ) → n < 64 → h / 1024 % 256 ≤ 10 → n * 2 ^ (h / 1024 % 16) % 4294967296 ≡ n * 2 ^ (h / 1024 % 256)
-units-at h n n1 k =
+units_at : (h n : ℕ) → n < 64 → h / 1024 % 256 ≤ 10 → n * 2 ^ (h / 1024 % 16) % 4294967296 ≡ n * 2 ^ (h / 1024 % 256)
+units_at h n n1 k =
     let same : h / 1024 % 16 ≡ h / 1024 % 256 = omega arith in
-    ap (λ (e : ℕ). n * 2 ^ e % 4294967296) same ∙ units-fit n (h / 1024 % 256) n1 k
+    ap (λ (e : ℕ). n * 2 ^ e % 4294967296) same ∙ units_fit n (h / 1024 % 256) n1 k
 
 abbrev pub subnormal : ℕ → ℕ → Bool
 subnormal h n = leb (h % 262144) (10 * 1024) && ltb (n * 2 ^ (h / 1024 % 16) % 4294967296) 2048
@@ -152,13 +152,13 @@ subnormal h n = leb (h % 262144) (10 * 1024) && ltb (n * 2 ^ (h / 1024 % 16) % 4
 pub is_subnormal : (h n : ℕ) → n < 64 → subnormal h n ≡ true → (n * 2 ^ (h / 1024 % 16) % 4294967296 ≡ n * 2 ^ (h / 1024 % 256)) × (n * 2 ^ (h / 1024 % 256) < 2048)
 is_subnormal h n n1 t =
     let b = both (leb (h % 262144) (10 * 1024)) (ltb (n * 2 ^ (h / 1024 % 16) % 4294967296) 2048) t in
-    let small : h / 1024 % 256 ≤ 10 = omega (arith, exponent-at h, leb-true (h % 262144) (10 * 1024) b.0) in
-    let same = units-at h n n1 small in
+    let small : h / 1024 % 256 ≤ 10 = omega (arith, exponent_at h, leb-true (h % 262144) (10 * 1024) b.0) in
+    let same = units_at h n n1 small in
     (same, omega (arith, same, ltb-true (n * 2 ^ (h / 1024 % 16) % 4294967296) 2048 b.1))
 
-pub not-subnormal : (h n : ℕ) → n < 64 → h % 1024 ≡ 0 → subnormal h n ≡ false → h / 1024 % 256 ≤ 10 → 2048 ≤ n * 2 ^ (h / 1024 % 256)
-not-subnormal h n n1 z t k =
-    let same = units-at h n n1 k in
-    let first : leb (h % 262144) (10 * 1024) ≡ true = le-leb (h % 262144) (10 * 1024) (omega (arith, exponent-at h)) in
+pub not_subnormal : (h n : ℕ) → n < 64 → h % 1024 ≡ 0 → subnormal h n ≡ false → h / 1024 % 256 ≤ 10 → 2048 ≤ n * 2 ^ (h / 1024 % 256)
+not_subnormal h n n1 z t k =
+    let same = units_at h n n1 k in
+    let first : leb (h % 262144) (10 * 1024) ≡ true = le-leb (h % 262144) (10 * 1024) (omega (arith, exponent_at h)) in
     let second : ltb (n * 2 ^ (h / 1024 % 16) % 4294967296) 2048 ≡ false = ap (λ (b : Bool). b && ltb (n * 2 ^ (h / 1024 % 16) % 4294967296) 2048) (sym first) ∙ t in
     omega (arith, same, ltb-false (n * 2 ^ (h / 1024 % 16) % 4294967296) 2048 second)

@@ -7,11 +7,11 @@ use borrow.Author.Tests.{le-leb, lt-leb, leb-true, leb-false, lt-ltb, le-ltb, lt
 use lib.Dec.{eqb, leb, ltb}
 use Rattle.cells.specs.declared.layout.File.{File}
 use Rattle.datum.specs.declared.finite.Patterns.{Patterns}
-use Rattle.datum.specs.Read.{sign_of, exponentOf, mantissaOf, number_of, patternsOf}
+use Rattle.datum.specs.Read.{sign_of, exponent_of, mantissa_of, number_of, patterns_of}
 
 -- two tests that hold together
-pub leb-same : (a b c d : ℕ) → (a ≤ b → c ≤ d) → (b < a → d < c) → leb a b ≡ leb c d
-leb-same a b c d h k = go (leb a b) refl
+pub leb_same : (a b c d : ℕ) → (a ≤ b → c ≤ d) → (b < a → d < c) → leb a b ≡ leb c d
+leb_same a b c d h k = go (leb a b) refl
   where
     go : (t : Bool) → leb a b ≡ t → leb a b ≡ leb c d
     go true t = t ∙ sym (le-leb c d (h (leb-true a b t)))
@@ -26,50 +26,50 @@ sign_at h l = go (leb 256 (h / 1024)) refl
     go false t = t ∙ sym (ne_eqb (h / 2 ^ 18 % 2) 1 (λ e. omega (arith, leb-false 256 (h / 1024) t)))
 
 -- these bits alone have the number's sign and exponent
-pub head-sign : (x : ℕ) → sign_of (x / 1024 % 512 * 1024) ≡ sign_of x
-head-sign x = let same : x / 1024 % 512 * 1024 / 2 ^ 18 % 2 ≡ x / 2 ^ 18 % 2 = omega arith in ap (λ (z : ℕ). eqb z 1) same
+pub head_sign : (x : ℕ) → sign_of (x / 1024 % 512 * 1024) ≡ sign_of x
+head_sign x = let same : x / 1024 % 512 * 1024 / 2 ^ 18 % 2 ≡ x / 2 ^ 18 % 2 = omega arith in ap (λ (z : ℕ). eqb z 1) same
 
-pub head-exponent : (x : ℕ) → exponentOf (x / 1024 % 512 * 1024) ≡ exponentOf x
-head-exponent x = omega arith
+pub head_exponent : (x : ℕ) → exponent_of (x / 1024 % 512 * 1024) ≡ exponent_of x
+head_exponent x = omega arith
 
 -- every sign, exponent and mantissa are some number's
-pub number-fields : (s : Bool) (e m : ℕ) → e < 256 → m < 1024 → (sign_of (number_of s e m) ≡ s) × (exponentOf (number_of s e m) ≡ e) × (number_of s e m % 2 ^ 10 ≡ m)
-number-fields true e m h k = (eq-eqb (number_of true e m / 2 ^ 18 % 2) 1 (omega arith), omega arith, omega arith)
-number-fields false e m h k = (ne_eqb (number_of false e m / 2 ^ 18 % 2) 1 (λ z. omega arith), omega arith, omega arith)
+pub number_fields : (s : Bool) (e m : ℕ) → e < 256 → m < 1024 → (sign_of (number_of s e m) ≡ s) × (exponent_of (number_of s e m) ≡ e) × (number_of s e m % 2 ^ 10 ≡ m)
+number_fields true e m h k = (eq-eqb (number_of true e m / 2 ^ 18 % 2) 1 (omega arith), omega arith, omega arith)
+number_fields false e m h k = (ne_eqb (number_of false e m / 2 ^ 18 % 2) 1 (λ z. omega arith), omega arith, omega arith)
 
 -- and every number has some
-pub fields-number : (x : ℕ) → x % 524288 ≡ number_of (sign_of x) (exponentOf x) (x % 2 ^ 10)
-fields-number x = go (eqb (x / 2 ^ 18 % 2) 1) refl
+pub fields_number : (x : ℕ) → x % 524288 ≡ number_of (sign_of x) (exponent_of x) (x % 2 ^ 10)
+fields_number x = go (eqb (x / 2 ^ 18 % 2) 1) refl
   where
-    go : (b : Bool) → eqb (x / 2 ^ 18 % 2) 1 ≡ b → x % 524288 ≡ number_of b (exponentOf x) (x % 2 ^ 10)
+    go : (b : Bool) → eqb (x / 2 ^ 18 % 2) 1 ≡ b → x % 524288 ≡ number_of b (exponent_of x) (x % 2 ^ 10)
     go true t = omega (arith, eqb-true (x / 2 ^ 18 % 2) 1 t)
     go false t = let n = eqb-false (x / 2 ^ 18 % 2) 1 t in omega arith
 
 -- the fields of a number by its low 19 bits
-pub fields-of : (x : ℕ) (s : Bool) (e m : ℕ) → e < 256 → m < 1024 → x % 524288 ≡ number_of s e m → (sign_of x ≡ s) × (exponentOf x ≡ e) × (x % 2 ^ 10 ≡ m)
-fields-of x s e m h k is =
-    let n = number-fields s e m h k in
+pub fields_of_lem : (x : ℕ) (s : Bool) (e m : ℕ) → e < 256 → m < 1024 → x % 524288 ≡ number_of s e m → (sign_of x ≡ s) × (exponent_of x ≡ e) × (x % 2 ^ 10 ≡ m)
+fields_of_lem x s e m h k is =
+    let n = number_fields s e m h k in
     let sign : x / 2 ^ 18 % 2 ≡ x % 524288 / 2 ^ 18 % 2 = omega arith in
-    let exponent : exponentOf x ≡ exponentOf (x % 524288) = omega arith in
+    let exponent : exponent_of x ≡ exponent_of (x % 524288) = omega arith in
     let low : x % 2 ^ 10 ≡ x % 524288 % 2 ^ 10 = omega arith in
-    (ap (λ (z : ℕ). eqb z 1) sign ∙ ap sign_of is ∙ n.0, exponent ∙ ap exponentOf is ∙ n.1, low ∙ ap (λ (z : ℕ). z % 2 ^ 10) is ∙ n.2)
+    (ap (λ (z : ℕ). eqb z 1) sign ∙ ap sign_of is ∙ n.0, exponent ∙ ap exponent_of is ∙ n.1, low ∙ ap (λ (z : ℕ). z % 2 ^ 10) is ∙ n.2)
 
 -- the mantissa goes by the low ten bits
-pub mantissa-same : (format x m : ℕ) → x % 2 ^ 10 ≡ m → mantissaOf format x ≡ mantissaOf format m
-mantissa-same format x m is =
+pub mantissa_same : (format x m : ℕ) → x % 2 ^ 10 ≡ m → mantissa_of format x ≡ mantissa_of format m
+mantissa_same format x m is =
     let same : x % 2 ^ 10 ≡ m % 2 ^ 10 = omega (arith, is) in
     ap (λ (z : ℕ). cond (eqb format 2) (z / 8 * 8) z) same
 
 -- patterns that are right for every sign, exponent and mantissa are so for the number's own
-pub own-fields : (p : Patterns) (f : File) (format x : ℕ)
-    → ((s : Bool) (e m : ℕ) → 0 < e → e < 255 → m < 1024 → x % 524288 ≡ number_of s e m → p ≡ patternsOf f s e (mantissaOf format m))
-    → 0 < exponentOf x → exponentOf x < 255 → p ≡ patternsOf f (sign_of x) (exponentOf x) (mantissaOf format x)
-own-fields p f format x right e0 e1 =
-    right (sign_of x) (exponentOf x) (x % 2 ^ 10) e0 e1 (omega arith) (fields-number x)
-    ∙ ap (patternsOf f (sign_of x) (exponentOf x)) (sym (mantissa-same format x (x % 2 ^ 10) refl))
+pub own_fields : (p : Patterns) (f : File) (format x : ℕ)
+    → ((s : Bool) (e m : ℕ) → 0 < e → e < 255 → m < 1024 → x % 524288 ≡ number_of s e m → p ≡ patterns_of f s e (mantissa_of format m))
+    → 0 < exponent_of x → exponent_of x < 255 → p ≡ patterns_of f (sign_of x) (exponent_of x) (mantissa_of format x)
+own_fields p f format x right e0 e1 =
+    right (sign_of x) (exponent_of x) (x % 2 ^ 10) e0 e1 (omega arith) (fields_number x)
+    ∙ ap (patterns_of f (sign_of x) (exponent_of x)) (sym (mantissa_same format x (x % 2 ^ 10) refl))
 
-pub exponent-at : (h : ℕ) → h % 262144 ≡ h / 1024 % 256 * 1024 + h % 1024
-exponent-at h = omega arith
+pub exponent_at : (h : ℕ) → h % 262144 ≡ h / 1024 % 256 * 1024 + h % 1024
+exponent_at h = omega arith
 
 zero_of : (e : ℕ) → eqb (e * 1024) 0 ≡ eqb e 0
 zero_of zero = refl
@@ -90,12 +90,12 @@ middle_of e h = go (ltb 10 e) refl (ltb e 255) refl
         let l : 10 < e = ltb-true 10 e t in
         simp (lt-ltb (10 * 1024) (e * 1024) (omega arith), ne_eqb (e * 1024) (255 * 1024) (λ z. omega arith), t, u)
 
-pub zero-at : (x : ℕ) → eqb (x / 1024 % 256 * 1024) 0 ≡ eqb (exponentOf x) 0
-zero-at x = zero_of (exponentOf x)
+pub zero_at : (x : ℕ) → eqb (x / 1024 % 256 * 1024) 0 ≡ eqb (exponent_of x) 0
+zero_at x = zero_of (exponent_of x)
 
-pub middle-at : (x : ℕ) → (ltb (10 * 1024) (x / 1024 % 256 * 1024) && not (eqb (x / 1024 % 256 * 1024) (255 * 1024))) ≡ (ltb 10 (exponentOf x) && ltb (exponentOf x) 255)
-middle-at x = middle_of (exponentOf x) (omega arith)
+pub middle_at : (x : ℕ) → (ltb (10 * 1024) (x / 1024 % 256 * 1024) && not (eqb (x / 1024 % 256 * 1024) (255 * 1024))) ≡ (ltb 10 (exponent_of x) && ltb (exponent_of x) 255)
+middle_at x = middle_of (exponent_of x) (omega arith)
 
 -- an exponent that is neither 0 nor 255, by its place
-pub finite-exponent : (x : ℕ) → (x / 1024 % 256 * 1024 ≡ 0 → ⊥) → (x / 1024 % 256 * 1024 ≡ 255 * 1024 → ⊥) → (0 < exponentOf x) × (exponentOf x < 255)
-finite-exponent x h k = (omega arith, omega arith)
+pub finite_exponent : (x : ℕ) → (x / 1024 % 256 * 1024 ≡ 0 → ⊥) → (x / 1024 % 256 * 1024 ≡ 255 * 1024 → ⊥) → (0 < exponent_of x) × (exponent_of x < 255)
+finite_exponent x h k = (omega arith, omega arith)

@@ -11,13 +11,13 @@ pub record Value : Type 0 where
   pub units : ℕ
 
 -- finite, (1024 + m) × 2^(e−137) with its sign
-abbrev pub finiteValue : Bool → ℕ → ℕ → Value
-finiteValue s e m = record { negative = s; units = (1024 + m) * 2 ^ e }
+abbrev pub finite_value : Bool → ℕ → ℕ → Value
+finite_value s e m = record { negative = s; units = (1024 + m) * 2 ^ e }
 
 -- the mantissa that is left in a file's parts: all of it in SrcB's, all but its lowest bit in SrcA's
-abbrev pub keptMantissa : File → ℕ → ℕ
-keptMantissa A m = m / 2 * 2
-keptMantissa B m = m
+abbrev pub kept_mantissa : File → ℕ → ℕ
+kept_mantissa A m = m / 2 * 2
+kept_mantissa B m = m
 
 -- y is exactly n × 2^−137, with the sign s; +0 where n is 0
 abbrev pub IsUnits : Float → Bool → ℕ → Type 0
@@ -27,6 +27,6 @@ IsUnits y s n = HasValue y (s && ltb 0 n) n (2 ^ 137)
 pub record MakeUp (p : Slices) (v : Value) : Type 0 where
   pub high : ℕ
   pub low : ℕ
-  pub is-high : IsUnits p.high v.negative high
-  pub is-low : IsUnits p.low v.negative low
+  pub is_high : IsUnits p.high v.negative high
+  pub is_low : IsUnits p.low v.negative low
   pub sum : high + low ≡ v.units

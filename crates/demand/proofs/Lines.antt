@@ -11,7 +11,7 @@ use Rattle.cells.proofs.Cells.{between_in}
 use Rattle.cells.proofs.Same.{Same, number_same}
 use Rattle.word.specs.declared.Refusal.TheVariants.{UnsetRead}
 use Rattle.control.specs.declared.Control.{Control}
-use Rattle.cells.specs.Layout.{dstNumbers, registerCount, register, oneRegister}
+use Rattle.cells.specs.Layout.{dst_numbers, register_count, register, one_register}
 use Rattle.rules.specs.Rules.{lowest}
 use Rattle.rules.specs.declared.Verdict.TheVariants.{Done}
 use Rattle.cells.specs.State.{State}
@@ -20,46 +20,46 @@ use Rattle.job.specs.declared.Output.TheVariants.{Rows, Register}
 use Rattle.job.specs.declared.Kind.{Kind}
 use Rattle.job.specs.declared.Kind.TheVariants as kind
 use Rattle.job.proofs.Says.{OutputSays, Says}
-use Rattle.precheck.specs.Marks.{Marks, allSet}
-use Rattle.precheck.specs.Judging.{outputRules, fieldRules}
-use Rattle.lines.specs.Lines.{row, value, columns, row_lines, outputLines, fieldLines}
-use Rattle.demand.proofs.Rules.{alone-done}
+use Rattle.precheck.specs.Marks.{Marks, all_set}
+use Rattle.precheck.specs.Judging.{output_rules, field_rules}
+use Rattle.lines.specs.Lines.{row, value, columns, row_lines, output_lines, field_lines}
+use Rattle.demand.proofs.Rules.{alone_done}
 use Rattle.demand.proofs.MarksStay.{Stays}
-use Rattle.demand.proofs.Agreement.{Agree, byRow, alone, set_at, one_set, cell_same}
+use Rattle.demand.proofs.Agreement.{Agree, by_row, alone, set_at, one_set, cell_same}
 
-module _ (w : Width) (n : ℕ) (m : List Bool) (d e : List ℕ) (s : Same w byRow n m d e) where
-  columns-same : (r k count : ℕ) → k + count ≤ 16 → get_or m r false ≡ true → columns w d r k count ≡ columns w e r k count
+module _ (w : Width) (n : ℕ) (m : List Bool) (d e : List ℕ) (s : Same w by_row n m d e) where
+  columns_same : (r k count : ℕ) → k + count ≤ 16 → get_or m r false ≡ true → columns w d r k count ≡ columns w e r k count
   unfolding columns
-  columns-same r k zero l t = refl
-  columns-same r k (suc count) l t =
-      λ i. cell_same w n m d e s r k (omega arith) t i ∷ columns-same r (suc k) count (omega arith) t i
+  columns_same r k zero l t = refl
+  columns_same r k (suc count) l t =
+      λ i. cell_same w n m d e s r k (omega arith) t i ∷ columns_same r (suc k) count (omega arith) t i
 
   rows_same : (first count : ℕ) → ((r : ℕ) → first ≤ r → r < first + count → get_or m r false ≡ true) → row_lines w d first count ≡ row_lines w e first count
   unfolding row_lines
   rows_same first zero h = refl
   rows_same first (suc count) h =
-      λ i. row w first (columns-same first 0 16 (omega arith) (h first (omega arith) (omega arith)) i)
+      λ i. row w first (columns_same first 0 16 (omega arith) (h first (omega arith) (omega arith)) i)
       ∷ rows_same (suc first) count (λ r a b. h r (omega arith) (omega arith)) i
 
 -- an output that breaks no rule under the marks m prints the same under any marks n that m stays in
-output-same : (w : Width) (tag : ℕ) (p : List ℕ) (m n : Marks) (o : Output) (d e : State) → OutputSays w tag p o → lowest (outputRules m o) ≡ Done → Stays m n → Agree w n d e
-    → outputLines o d ≡ outputLines o e
-unfolding outputLines
-output-same w tag p m n (Rows v rows) d e i h z s =
-    let set = not-false _ (alone-done UnsetRead (not (allSet m.dst rows)) h) in
+output_same : (w : Width) (tag : ℕ) (p : List ℕ) (m n : Marks) (o : Output) (d e : State) → OutputSays w tag p o → lowest (output_rules m o) ≡ Done → Stays m n → Agree w n d e
+    → output_lines o d ≡ output_lines o e
+unfolding output_lines
+output_same w tag p m n (Rows v rows) d e i h z s =
+    let set = not-false _ (alone_done UnsetRead (not (all_set m.dst rows)) h) in
     rw i.1
-    (rows_same w dstNumbers n.dst d.dst e.dst s.dst rows.first rows.count
+    (rows_same w dst_numbers n.dst d.dst e.dst s.dst rows.first rows.count
     (λ r a b. z.dst r (set_at m.dst rows r set (between_in rows.first (rows.first + rows.count) r a b))))
-output-same w tag p m n (Register t r) d e i h z s =
-    let set = not-false _ (alone-done UnsetRead (not (allSet m.registers (oneRegister t r))) h) in
-    λ j. value t r (number_same alone registerCount n.registers d.registers e.registers s.registers (register t r) (z.registers (register t r) (one_set m.registers (register t r) set)) j) ∷ []
+output_same w tag p m n (Register t r) d e i h z s =
+    let set = not-false _ (alone_done UnsetRead (not (all_set m.registers (one_register t r))) h) in
+    λ j. value t r (number_same alone register_count n.registers d.registers e.registers s.registers (register t r) (z.registers (register t r) (one_set m.registers (register t r) set)) j) ∷ []
 
-pub lines_same : (w : Width) (tag : ℕ) (p : List ℕ) (c : Control) (m n : Marks) (k : Kind) (d e : State) → Says w tag p k → lowest (fieldRules c m k) ≡ Done → Stays m n → Agree w n d e
-    → fieldLines k d ≡ fieldLines k e
-unfolding fieldLines fieldRules
+pub lines_same : (w : Width) (tag : ℕ) (p : List ℕ) (c : Control) (m n : Marks) (k : Kind) (d e : State) → Says w tag p k → lowest (field_rules c m k) ≡ Done → Stays m n → Agree w n d e
+    → field_lines k d ≡ field_lines k e
+unfolding field_lines field_rules
 lines_same w tag p c m n kind.Settings d e i h z s = refl
 lines_same w tag p c m n (kind.Issue t x) d e i h z s = refl
 lines_same w tag p c m n (kind.HandOver file) d e i h z s = refl
 lines_same w tag p c m n (kind.Writes x) d e i h z s = refl
-lines_same w tag p c m n (kind.Prints o) d e i h z s = output-same w tag p m n o d e i h z s
+lines_same w tag p c m n (kind.Prints o) d e i h z s = output_same w tag p m n o d e i h z s
 lines_same w tag p c m n (kind.Wrong x) d e i h z s = refl

@@ -5,17 +5,17 @@ use mathlib.Core.List.{List}
 use Prim.Native.Nat.{ℕ}
 use lib.ListN.{get_or}
 use Rattle.cells.specs.Cells.{in_span}
-use Rattle.cells.proofs.Cells.{over-true}
+use Rattle.cells.proofs.Cells.{over_true}
 use Rattle.cells.specs.declared.layout.File.TheVariants.{A, B}
 use Rattle.control.specs.declared.Control.{Control}
-use Rattle.rules.specs.Access.{wordSets}
+use Rattle.rules.specs.Access.{word_sets}
 use Rattle.job.specs.declared.Write.{Write}
 use Rattle.job.specs.declared.Write.TheVariants.{LoadSrc, LoadDst, LoadRegister, ZeroRows}
 use Rattle.job.specs.declared.Kind.{Kind}
 use Rattle.job.specs.declared.Kind.TheVariants as kind
 use Rattle.precheck.specs.Marks.{Marks}
-use Rattle.precheck.specs.Marks.{markSrc, markDst, markRegister, instructionMarks}
-use Rattle.precheck.specs.Marking.{writeMarks, fieldMarks}
+use Rattle.precheck.specs.Marks.{mark_src, mark_dst, mark_register, instruction_marks}
+use Rattle.precheck.specs.Marking.{write_marks, field_marks}
 
 -- each mark of m stands in n
 abbrev pub In : List Bool → List Bool → Type 0
@@ -31,19 +31,19 @@ stays m = record { dst = λ r t. t; registers = λ r t. t }
 pub stays_on : (l m n : Marks) → Stays l m → Stays m n → Stays l n
 stays_on l m n p q = record { dst = λ r t. q.dst r (p.dst r t); registers = λ r t. q.registers r (p.registers r t) }
 
-write-stays : (c : Control) (m : Marks) (x : Write) → Stays m (writeMarks c m x)
-unfolding markSrc markDst markRegister
-write-stays c m (LoadSrc A rows) = record { dst = λ r t. t; registers = λ r t. t }
-write-stays c m (LoadSrc B rows) = record { dst = λ r t. t; registers = λ r t. t }
-write-stays c m (LoadDst w rows) = record { dst = over-true (in_span rows) m.dst; registers = λ r t. t }
-write-stays c m (LoadRegister t r) = record { dst = λ r t. t; registers = over-true _ m.registers }
-write-stays c m (ZeroRows w rows) = record { dst = over-true (in_span rows) m.dst; registers = λ r t. t }
+write_stays : (c : Control) (m : Marks) (x : Write) → Stays m (write_marks c m x)
+unfolding mark_src mark_dst mark_register
+write_stays c m (LoadSrc A rows) = record { dst = λ r t. t; registers = λ r t. t }
+write_stays c m (LoadSrc B rows) = record { dst = λ r t. t; registers = λ r t. t }
+write_stays c m (LoadDst w rows) = record { dst = over_true (in_span rows) m.dst; registers = λ r t. t }
+write_stays c m (LoadRegister t r) = record { dst = λ r t. t; registers = over_true _ m.registers }
+write_stays c m (ZeroRows w rows) = record { dst = over_true (in_span rows) m.dst; registers = λ r t. t }
 
-pub marks_stay : (c : Control) (m : Marks) (k : Kind) → Stays m (fieldMarks c m k)
-unfolding fieldMarks instructionMarks
+pub marks_stay : (c : Control) (m : Marks) (k : Kind) → Stays m (field_marks c m k)
+unfolding field_marks instruction_marks
 marks_stay c m kind.Settings = stays m
-marks_stay c m (kind.Issue t w) = record { dst = λ r t. t; registers = over-true (in_span (wordSets c t w).registers) m.registers }
+marks_stay c m (kind.Issue t w) = record { dst = λ r t. t; registers = over_true (in_span (word_sets c t w).registers) m.registers }
 marks_stay c m (kind.HandOver file) = stays m
-marks_stay c m (kind.Writes x) = write-stays c m x
+marks_stay c m (kind.Writes x) = write_stays c m x
 marks_stay c m (kind.Prints o) = stays m
 marks_stay c m (kind.Wrong x) = stays m

@@ -8,9 +8,9 @@ use borrow.Author.Tests.{ltb-true, lt-ltb, eqb-true, eq-eqb}
 use lib.Dec.{ltb, eqb}
 use lib.ListN.{get_or}
 use Rattle.cells.proofs.Cells.{split}
-use Rattle.cells.proofs.Tests.{each_of, all_of, below_of, of-below}
-use Rattle.control.specs.Record.{startThread, zeroSlot}
-use Rattle.control.specs.Range.{srcTests, srcOk, dstTests, dstOk, slotTests, slotOk, slotsOk, threadTests, threadOk, threadsOk, banksTests, banksOk, settingsTests, lastOk, rangeTests, in_range}
+use Rattle.cells.proofs.Tests.{each_of, all_of, below_of, of_below}
+use Rattle.control.specs.Record.{start_thread, zero_slot}
+use Rattle.control.specs.Range.{src_tests, src_ok, dst_tests, dst_ok, slot_tests, slot_ok, slots_ok, thread_tests, thread_ok, threads_ok, banks_tests, banks_ok, settings_tests, last_ok, range_tests, in_range}
 use Rattle.control.specs.declared.Slot.{Slot}
 use Rattle.control.specs.declared.Src.{Src}
 use Rattle.control.specs.declared.Banks.{Banks}
@@ -28,36 +28,36 @@ least {n} k e = omega (arith, ltb-true n (suc k) e)
 
 -- ---- the parts
 
-src-ok : (x : Src) → SrcIn x → srcOk x ≡ true
-src-ok x h = all_of (srcTests x) (upto 63 h.counter, (upto 63 h.carry, tt))
+src_ok_lem : (x : Src) → SrcIn x → src_ok x ≡ true
+src_ok_lem x h = all_of (src_tests x) (upto 63 h.counter, (upto 63 h.carry, tt))
 
-src-in : (x : Src) → srcOk x ≡ true → SrcIn x
-src-in x e = let t = each_of (srcTests x) e in record { counter = least 63 t.0; carry = least 63 t.1.0 }
+src_in : (x : Src) → src_ok x ≡ true → SrcIn x
+src_in x e = let t = each_of (src_tests x) e in record { counter = least 63 t.0; carry = least 63 t.1.0 }
 
-slot_ok : (x : Slot) → StepsIn x → slotOk x ≡ true
-slot_ok x h = all_of (slotTests x) (upto 63 h.srca, (upto 63 h.srcb, (upto 1023 h.dst, (upto 3 h.fidelity, tt))))
+slot_ok_lem : (x : Slot) → StepsIn x → slot_ok x ≡ true
+slot_ok_lem x h = all_of (slot_tests x) (upto 63 h.srca, (upto 63 h.srcb, (upto 1023 h.dst, (upto 3 h.fidelity, tt))))
 
-slot-in : (x : Slot) → slotOk x ≡ true → StepsIn x
-slot-in x e =
-    let t = each_of (slotTests x) e in
+slot_in_lem : (x : Slot) → slot_ok x ≡ true → StepsIn x
+slot_in_lem x e =
+    let t = each_of (slot_tests x) e in
     record { srca = least 63 t.0; srcb = least 63 t.1.0; dst = least 1023 t.1.1.0; fidelity = least 3 t.1.1.1.0 }
 
-thread-ok : (x : Thread) → CountersIn x → threadOk x ≡ true
-unfolding slotsOk
-thread-ok x h =
-    all_of (threadTests x) (
-      all_of (dstTests x.dst) (upto 1023 h.dst, (upto 1023 h.carry, tt)),
+thread_ok_lem : (x : Thread) → CountersIn x → thread_ok x ≡ true
+unfolding slots_ok
+thread_ok_lem x h =
+    all_of (thread_tests x) (
+      all_of (dst_tests x.dst) (upto 1023 h.dst, (upto 1023 h.carry, tt)),
       (
-        src-ok x.a h.srca,
+        src_ok_lem x.a h.srca,
         (
-          src-ok x.b h.srcb,
+          src_ok_lem x.b h.srcb,
           (
             upto 3 h.phase,
             (
               upto 1023 h.offset,
               (
                 upto 3 h.fidelity,
-                (of-below (λ (i : ℕ). slotOk (get_or x.slots i zeroSlot)) 8 (λ s l. slot_ok (get_or x.slots s zeroSlot) (h.slots s l)), tt),
+                (of_below (λ (i : ℕ). slot_ok (get_or x.slots i zero_slot)) 8 (λ s l. slot_ok_lem (get_or x.slots s zero_slot) (h.slots s l)), tt),
               ),
             ),
           ),
@@ -65,33 +65,33 @@ thread-ok x h =
       ),
     )
 
-thread-in : (x : Thread) → threadOk x ≡ true → CountersIn x
-unfolding slotsOk
-thread-in x e =
-    let t = each_of (threadTests x) e in
-    let d = each_of (dstTests x.dst) t.0 in
+thread_in : (x : Thread) → thread_ok x ≡ true → CountersIn x
+unfolding slots_ok
+thread_in x e =
+    let t = each_of (thread_tests x) e in
+    let d = each_of (dst_tests x.dst) t.0 in
     record {
       dst = least 1023 d.0;
       carry = least 1023 d.1.0;
-      srca = src-in x.a t.1.0;
-      srcb = src-in x.b t.1.1.0;
+      srca = src_in x.a t.1.0;
+      srcb = src_in x.b t.1.1.0;
       phase = least 3 t.1.1.1.0;
       offset = least 1023 t.1.1.1.1.0;
       fidelity = least 3 t.1.1.1.1.1.0;
-      slots = λ s l. slot-in (get_or x.slots s zeroSlot) (below_of (λ (i : ℕ). slotOk (get_or x.slots i zeroSlot)) 8 t.1.1.1.1.1.1.0 s l);
+      slots = λ s l. slot_in_lem (get_or x.slots s zero_slot) (below_of (λ (i : ℕ). slot_ok (get_or x.slots i zero_slot)) 8 t.1.1.1.1.1.1.0 s l);
     }
 
-banks-ok : (x : Banks) → PointersIn x → banksOk x ≡ true
-banks-ok x h = all_of (banksTests x) (upto 1 h.matrix, (upto 1 h.unpack, tt))
+banks_ok_lem : (x : Banks) → PointersIn x → banks_ok x ≡ true
+banks_ok_lem x h = all_of (banks_tests x) (upto 1 h.matrix, (upto 1 h.unpack, tt))
 
-banks-in : (x : Banks) → banksOk x ≡ true → PointersIn x
-banks-in x e = let t = each_of (banksTests x) e in record { matrix = least 1 t.0; unpack = least 1 t.1.0 }
+banks_in : (x : Banks) → banks_ok x ≡ true → PointersIn x
+banks_in x e = let t = each_of (banks_tests x) e in record { matrix = least 1 t.0; unpack = least 1 t.1.0 }
 
-last_ok : (n : ℕ) → (n ≡ 0) ⊎ ((n ≡ 16) ⊎ ((n ≡ 32) ⊎ (n ≡ 48))) → lastOk n ≡ true
-last_ok n h = ⊎_elim (λ e. rw e) (⊎_elim (λ e. rw e) (⊎_elim (λ e. rw e) (λ e. rw e))) h
+last_ok_lem : (n : ℕ) → (n ≡ 0) ⊎ ((n ≡ 16) ⊎ ((n ≡ 32) ⊎ (n ≡ 48))) → last_ok n ≡ true
+last_ok_lem n h = ⊎_elim (λ e. rw e) (⊎_elim (λ e. rw e) (⊎_elim (λ e. rw e) (λ e. rw e))) h
 
-last-in : (n : ℕ) → lastOk n ≡ true → (n ≡ 0) ⊎ ((n ≡ 16) ⊎ ((n ≡ 32) ⊎ (n ≡ 48)))
-last-in n e =
+last_in : (n : ℕ) → last_ok n ≡ true → (n ≡ 0) ⊎ ((n ≡ 16) ⊎ ((n ≡ 32) ⊎ (n ≡ 48)))
+last_in n e =
     split (eqb n 0) (λ a. inl (eqb-true n 0 a))
     (λ a. inr (split (eqb n 16) (λ b. inl (eqb-true n 16 b))
     (λ b. inr (split (eqb n 32) (λ c. inl (eqb-true n 32 c))
@@ -99,27 +99,27 @@ last-in n e =
 
 -- ---- the record
 
-pub record-ok : (c : Control) → RecordIn c → in_range c ≡ true
-unfolding in_range threadsOk
-record-ok c h =
-    all_of (rangeTests c) (
-      all_of (settingsTests c.settings) (upto 13 h.format, (upto 1023 h.base, tt)),
+pub record_ok : (c : Control) → RecordIn c → in_range c ≡ true
+unfolding in_range threads_ok
+record_ok c h =
+    all_of (range_tests c) (
+      all_of (settings_tests c.settings) (upto 13 h.format, (upto 1023 h.base, tt)),
       (
-        of-below (λ (i : ℕ). threadOk (get_or c.threads i startThread)) 3 (λ t l. thread-ok (get_or c.threads t startThread) (h.threads t l)),
-        (banks-ok c.a h.srca, (banks-ok c.b h.srcb, (last_ok c.last h.last, tt))),
+        of_below (λ (i : ℕ). thread_ok (get_or c.threads i start_thread)) 3 (λ t l. thread_ok_lem (get_or c.threads t start_thread) (h.threads t l)),
+        (banks_ok_lem c.a h.srca, (banks_ok_lem c.b h.srcb, (last_ok_lem c.last h.last, tt))),
       ),
     )
 
-pub record-in : (c : Control) → in_range c ≡ true → RecordIn c
-unfolding in_range threadsOk
-record-in c e =
-    let t = each_of (rangeTests c) e in
-    let s = each_of (settingsTests c.settings) t.0 in
+pub record_in : (c : Control) → in_range c ≡ true → RecordIn c
+unfolding in_range threads_ok
+record_in c e =
+    let t = each_of (range_tests c) e in
+    let s = each_of (settings_tests c.settings) t.0 in
     record {
       format = least 13 s.0;
       base = least 1023 s.1.0;
-      threads = λ k l. thread-in (get_or c.threads k startThread) (below_of (λ (i : ℕ). threadOk (get_or c.threads i startThread)) 3 t.1.0 k l);
-      srca = banks-in c.a t.1.1.0;
-      srcb = banks-in c.b t.1.1.1.0;
-      last = last-in c.last t.1.1.1.1.0;
+      threads = λ k l. thread_in (get_or c.threads k start_thread) (below_of (λ (i : ℕ). thread_ok (get_or c.threads i start_thread)) 3 t.1.0 k l);
+      srca = banks_in c.a t.1.1.0;
+      srcb = banks_in c.b t.1.1.1.0;
+      last = last_in c.last t.1.1.1.1.0;
     }

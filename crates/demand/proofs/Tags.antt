@@ -12,22 +12,22 @@ use Rattle.cells.specs.declared.layout.File.TheVariants.{A, B}
 use Rattle.cells.specs.declared.layout.Span.{Span}
 use Rattle.cells.specs.declared.Width.{Width}
 use Rattle.cells.specs.declared.Width.TheVariants.{Bits32, Bits16}
-use Rattle.cells.specs.Layout.{span, threadCount, threadRegisters}
-use Rattle.cells.specs.Places.{rowCount}
+use Rattle.cells.specs.Layout.{span, thread_count, thread_registers}
+use Rattle.cells.specs.Places.{row_count}
 use Rattle.cells.specs.Tests.{below, all}
 use Rattle.cells.proofs.Cells.{split}
-use Rattle.cells.proofs.Tests.{Each, each_of, all_of, below_of, of-below}
-use Rattle.control.specs.Range.{slotTests, slotOk, settingsTests}
+use Rattle.cells.proofs.Tests.{Each, each_of, all_of, below_of, of_below}
+use Rattle.control.specs.Range.{slot_tests, slot_ok, settings_tests}
 use Rattle.job.specs.Bytes.{le2}
-use Rattle.job.specs.Settings.{slot_of, slotRight, threadStart, threadRightTests, threadRight, settingsOf, settingsRightTests, settingsRight}
-use Rattle.job.specs.Kinds.{valueRight, mostRows, dstValues, dstRowsTests, registerTests, loadSpan, loadLengthTests, srcLoadTests, dstLoadTests, settingsKind, loadSrc, loadDst, loadFile, loadRows, loadRegister, handOverFile, issue, outputRows, outputRegister, zeroRows, readKind}
+use Rattle.job.specs.Settings.{slot_of, slot_right, thread_start, thread_right_tests, thread_right, settings_of, settings_right_tests, settings_right}
+use Rattle.job.specs.Kinds.{value_right, most_rows, dst_values, dst_rows_tests, register_tests, load_span, load_length_tests, src_load_tests, dst_load_tests, settings_kind, load_src, load_dst, load_file, load_rows, load_register, hand_over_file, issue, output_rows, output_register, zero_rows, read_kind}
 use Rattle.job.specs.declared.Kind.{Kind}
 use Rattle.job.specs.declared.Kind.TheVariants as kind
 use Rattle.job.specs.declared.Write.{Write}
 use Rattle.job.specs.declared.Write.TheVariants as write
 use Rattle.job.specs.declared.Output.{Output}
 use Rattle.job.specs.declared.Output.TheVariants as output
-use Rattle.job.specs.Answers.{fileNumber}
+use Rattle.job.specs.Answers.{file_number}
 use Rattle.job.proofs.Says.{WriteSays, OutputSays, Says, says}
 use Rattle.demand.proofs.Ranges.{upto, least}
 use Rattle.demand.specs.WellShaped as shape
@@ -39,16 +39,16 @@ one_of_two n h d = eq-eqb n 1 (omega arith)
 -- ---- settings
 
 module _ (p : List ℕ) where
-  slot-right : (b : ℕ) → SlotIn p b → slotOk (slot_of p b) ≡ true
+  slot_right_lem : (b : ℕ) → SlotIn p b → slot_ok (slot_of p b) ≡ true
   unfolding slot_of
-  slot-right b h =
-      all_of (slotTests (slot_of p b))
+  slot_right_lem b h =
+      all_of (slot_tests (slot_of p b))
       (upto 63 h.srca, (upto 63 h.srcb, (upto 1023 h.dst, (upto 3 h.fidelity, tt))))
 
-  slot-in : (b : ℕ) → slotOk (slot_of p b) ≡ true → SlotIn p b
+  slot_in_lem : (b : ℕ) → slot_ok (slot_of p b) ≡ true → SlotIn p b
   unfolding slot_of
-  slot-in b e =
-      let t = each_of (slotTests (slot_of p b)) e in
+  slot_in_lem b e =
+      let t = each_of (slot_tests (slot_of p b)) e in
       record {
         srca = least 63 t.0;
         srcb = least 63 t.1.0;
@@ -56,50 +56,50 @@ module _ (p : List ℕ) where
         fidelity = least 3 t.1.1.1.0;
       }
 
-  thread-right : (b : ℕ) → ThreadIn p b → threadRight p b ≡ true
-  unfolding threadRight
-  thread-right b h =
-      all_of (threadRightTests p b) (
+  thread_right_lem : (b : ℕ) → ThreadIn p b → thread_right p b ≡ true
+  unfolding thread_right
+  thread_right_lem b h =
+      all_of (thread_right_tests p b) (
         upto 1023 h.offset,
         (
           upto 3 h.fidelity,
           (
             upto 1 h.extra,
-            (of-below (slotRight p (b + 4)) 8 (λ s l. slot-right (b + 4 + 6 * s) (h.slots s l)), tt),
+            (of_below (slot_right p (b + 4)) 8 (λ s l. slot_right_lem (b + 4 + 6 * s) (h.slots s l)), tt),
           ),
         ),
       )
 
-  thread-in : (b : ℕ) → threadRight p b ≡ true → ThreadIn p b
-  unfolding threadRight
-  thread-in b e =
-      let t = each_of (threadRightTests p b) e in
+  thread_in : (b : ℕ) → thread_right p b ≡ true → ThreadIn p b
+  unfolding thread_right
+  thread_in b e =
+      let t = each_of (thread_right_tests p b) e in
       record {
         offset = least 1023 t.0;
         fidelity = least 3 t.1.0;
         extra = least 1 t.1.1.0;
-        slots = λ s l. slot-in (b + 4 + 6 * s) (below_of (slotRight p (b + 4)) 8 t.1.1.1.0 s l);
+        slots = λ s l. slot_in_lem (b + 4 + 6 * s) (below_of (slot_right p (b + 4)) 8 t.1.1.1.0 s l);
       }
 
-  settings-right : SettingsIn p → settingsRight p ≡ true
-  unfolding settingsRight
-  settings-right h =
-      all_of (settingsRightTests p) (
-        all_of (settingsTests (settingsOf p)) (upto 13 h.format, (upto 1023 h.base, tt)),
-        (lt-ltb (get_or p 1 0) 32 h.flags, (of-below (λ (t : ℕ). threadRight p (threadStart t)) 3 (λ t l. thread-right (4 + 52 * t) (h.threads t l)), tt)),
+  settings_right_lem : SettingsIn p → settings_right p ≡ true
+  unfolding settings_right
+  settings_right_lem h =
+      all_of (settings_right_tests p) (
+        all_of (settings_tests (settings_of p)) (upto 13 h.format, (upto 1023 h.base, tt)),
+        (lt-ltb (get_or p 1 0) 32 h.flags, (of_below (λ (t : ℕ). thread_right p (thread_start t)) 3 (λ t l. thread_right_lem (4 + 52 * t) (h.threads t l)), tt)),
       )
 
-  settings-in : length p ≡ 160 → settingsRight p ≡ true → SettingsIn p
-  unfolding settingsRight
-  settings-in l e =
-      let t = each_of (settingsRightTests p) e in
-      let s = each_of (settingsTests (settingsOf p)) t.0 in
+  settings_in : length p ≡ 160 → settings_right p ≡ true → SettingsIn p
+  unfolding settings_right
+  settings_in l e =
+      let t = each_of (settings_right_tests p) e in
+      let s = each_of (settings_tests (settings_of p)) t.0 in
       record {
         long = l;
         format = least 13 s.0;
         flags = ltb-true (get_or p 1 0) 32 t.1.0;
         base = least 1023 s.1.0;
-        threads = λ k l. thread-in (4 + 52 * k) (below_of (λ (t : ℕ). threadRight p (threadStart t)) 3 t.1.1.0 k l);
+        threads = λ k l. thread_in (4 + 52 * k) (below_of (λ (t : ℕ). thread_right p (thread_start t)) 3 t.1.1.0 k l);
       }
 
 -- ---- what a kind is, whatever it carries
@@ -127,210 +127,210 @@ taken P b x y e h = rw e h
 passed : (P : Kind → Type 0) (b : Bool) (x y : Kind) → b ≡ false → P y → P (cond b x y)
 passed P b x y e h = rw e h
 
-rows_right : (w : Width) (first count n : ℕ) → RowsInside first count n (rowCount w) → all (dstRowsTests w (span first count) n) ≡ true
+rows_right : (w : Width) (first count n : ℕ) → RowsInside first count n (row_count w) → all (dst_rows_tests w (span first count) n) ≡ true
 rows_right w first count n h =
-    all_of (dstRowsTests w (span first count) n) (le-leb _ _ h.some, (le-leb _ _ h.most, (le-leb _ _ h.inside, tt)))
+    all_of (dst_rows_tests w (span first count) n) (le-leb _ _ h.some, (le-leb _ _ h.most, (le-leb _ _ h.inside, tt)))
 
-rows_in : (w : Width) (rows : Span) (n : ℕ) → Each (dstRowsTests w rows n) → RowsInside rows.first rows.count n (rowCount w)
+rows_in : (w : Width) (rows : Span) (n : ℕ) → Each (dst_rows_tests w rows n) → RowsInside rows.first rows.count n (row_count w)
 rows_in w rows n e = record { some = leb-true _ _ e.0; most = leb-true _ _ e.1.0; inside = leb-true _ _ e.1.1.0 }
 
-register-right : (p : List ℕ) (n : ℕ) → RegisterNamed p n → all (registerTests (get_or p 0 0) (get_or p 1 0)) ≡ true
-register-right p n h =
-    all_of (registerTests (get_or p 0 0) (get_or p 1 0)) (upto 2 h.thread, (upto 63 h.register, tt))
+register_right : (p : List ℕ) (n : ℕ) → RegisterNamed p n → all (register_tests (get_or p 0 0) (get_or p 1 0)) ≡ true
+register_right p n h =
+    all_of (register_tests (get_or p 0 0) (get_or p 1 0)) (upto 2 h.thread, (upto 63 h.register, tt))
 
-register-in : (p : List ℕ) (n t r : ℕ) → length p ≡ n → t ≡ get_or p 0 0 → r ≡ get_or p 1 0 → Each (registerTests t r) → RegisterNamed p n
-register-in p n t r l e f h =
-    record { long = l; thread = omega (arith, ltb-true t threadCount h.0, e); register = omega (arith, ltb-true r threadRegisters h.1.0, f) }
+register_in : (p : List ℕ) (n t r : ℕ) → length p ≡ n → t ≡ get_or p 0 0 → r ≡ get_or p 1 0 → Each (register_tests t r) → RegisterNamed p n
+register_in p n t r l e f h =
+    record { long = l; thread = omega (arith, ltb-true t thread_count h.0, e); register = omega (arith, ltb-true r thread_registers h.1.0, f) }
 
 -- ---- load rows
 
 module _ (w : Width) (p : List ℕ) where
   -- the count that the length gives
-  counted : (n : ℕ) → length p ≡ 3 + 64 * n → (loadSpan p).count ≡ n
+  counted : (n : ℕ) → length p ≡ 3 + 64 * n → (load_span p).count ≡ n
   counted n l = rw l (omega arith)
 
-  long-right : (n : ℕ) → length p ≡ 3 + 64 * n → 1 ≤ n → n ≤ 64 → all (loadLengthTests p) ≡ true
-  long-right n l a b =
+  long_right : (n : ℕ) → length p ≡ 3 + 64 * n → 1 ≤ n → n ≤ 64 → all (load_length_tests p) ≡ true
+  long_right n l a b =
       let c = counted n l in
-      let a' : 1 ≤ (loadSpan p).count = rw c a in
-      let b' : (loadSpan p).count ≤ 64 = rw c b in
-      let l' : length p ≡ 3 + 64 * (loadSpan p).count = rw c l in
-      all_of (loadLengthTests p) (le-leb _ _ a', (le-leb _ _ b', (eq-eqb _ _ l', tt)))
+      let a' : 1 ≤ (load_span p).count = rw c a in
+      let b' : (load_span p).count ≤ 64 = rw c b in
+      let l' : length p ≡ 3 + 64 * (load_span p).count = rw c l in
+      all_of (load_length_tests p) (le-leb _ _ a', (le-leb _ _ b', (eq-eqb _ _ l', tt)))
 
-  values-right : (n limit : ℕ) → ValuesIn p n limit → below (valueRight limit p) (16 * n) ≡ true
-  values-right n limit h = of-below (valueRight limit p) (16 * n) (λ i l. lt-ltb _ limit (h i l))
+  values_right : (n limit : ℕ) → ValuesIn p n limit → below (value_right limit p) (16 * n) ≡ true
+  values_right n limit h = of_below (value_right limit p) (16 * n) (λ i l. lt-ltb _ limit (h i l))
 
-  values-in : (n limit : ℕ) → below (valueRight limit p) (16 * n) ≡ true → ValuesIn p n limit
-  values-in n limit e i l = ltb-true _ limit (below_of (valueRight limit p) (16 * n) e i l)
+  values_in : (n limit : ℕ) → below (value_right limit p) (16 * n) ≡ true → ValuesIn p n limit
+  values_in n limit e i l = ltb-true _ limit (below_of (value_right limit p) (16 * n) e i l)
 
-  dst-right : (v : Width) (n : ℕ) → (v ≡ Bits16 → ValuesIn p n (2 ^ 16)) → dstValues v p (16 * n) ≡ true
-  dst-right Bits32 n h = refl
-  dst-right Bits16 n h = values-right n (2 ^ 16) (h refl)
+  dst_right : (v : Width) (n : ℕ) → (v ≡ Bits16 → ValuesIn p n (2 ^ 16)) → dst_values v p (16 * n) ≡ true
+  dst_right Bits32 n h = refl
+  dst_right Bits16 n h = values_right n (2 ^ 16) (h refl)
 
-  dst-in : (v : Width) (n : ℕ) → dstValues v p (16 * n) ≡ true → v ≡ Bits16 → ValuesIn p n (2 ^ 16)
-  dst-in Bits32 n e q = absurd (let z : ◌≡◌ {A = ℕ} 0 1 = cc in omega arith)
-  dst-in Bits16 n e q = values-in n (2 ^ 16) e
+  dst_in : (v : Width) (n : ℕ) → dst_values v p (16 * n) ≡ true → v ≡ Bits16 → ValuesIn p n (2 ^ 16)
+  dst_in Bits32 n e q = absurd (let z : ◌≡◌ {A = ℕ} 0 1 = cc in omega arith)
+  dst_in Bits16 n e q = values_in n (2 ^ 16) e
 
-  load-src : (file : File) (n : ℕ) → length p ≡ 3 + 64 * n → RowsInside (le2 p 1) n 64 64 → ValuesIn p n (2 ^ 19) → Acting (loadSrc file (loadSpan p) p)
-  unfolding loadSrc
-  load-src file n l r v =
+  load_src_lem : (file : File) (n : ℕ) → length p ≡ 3 + 64 * n → RowsInside (le2 p 1) n 64 64 → ValuesIn p n (2 ^ 19) → Acting (load_src file (load_span p) p)
+  unfolding load_src
+  load_src_lem file n l r v =
       let c = counted n l in
-      let i : le2 p 1 + (loadSpan p).count ≤ 64 = rw c r.inside in
-      taken Acting (all (srcLoadTests (loadSpan p) p)) _ _
-      (all_of (srcLoadTests (loadSpan p) p) (le-leb _ _ i, (rw c (values-right n (2 ^ 19) v), tt))) tt
+      let i : le2 p 1 + (load_span p).count ≤ 64 = rw c r.inside in
+      taken Acting (all (src_load_tests (load_span p) p)) _ _
+      (all_of (src_load_tests (load_span p) p) (le-leb _ _ i, (rw c (values_right n (2 ^ 19) v), tt))) tt
 
-  load-dst : (n : ℕ) → length p ≡ 3 + 64 * n → RowsInside (le2 p 1) n 64 (rowCount w) → (w ≡ Bits16 → ValuesIn p n (2 ^ 16)) → Acting (loadDst w (loadSpan p) p)
-  unfolding loadDst
-  load-dst n l r v =
+  load_dst_lem : (n : ℕ) → length p ≡ 3 + 64 * n → RowsInside (le2 p 1) n 64 (row_count w) → (w ≡ Bits16 → ValuesIn p n (2 ^ 16)) → Acting (load_dst w (load_span p) p)
+  unfolding load_dst
+  load_dst_lem n l r v =
       let c = counted n l in
-      let i : le2 p 1 + (loadSpan p).count ≤ rowCount w = rw c r.inside in
-      taken Acting (all (dstLoadTests w (loadSpan p) p)) _ _
-      (all_of (dstLoadTests w (loadSpan p) p) (le-leb _ _ i, (rw c (dst-right w n v), tt))) tt
+      let i : le2 p 1 + (load_span p).count ≤ row_count w = rw c r.inside in
+      taken Acting (all (dst_load_tests w (load_span p) p)) _ _
+      (all_of (dst_load_tests w (load_span p) p) (le-leb _ _ i, (rw c (dst_right w n v), tt))) tt
 
-  load-file : (n : ℕ) → length p ≡ 3 + 64 * n → FileIn w p n → Acting (loadFile w (get_or p 0 0) (loadSpan p) p)
-  unfolding loadFile
-  load-file n l (shape.src f r v) =
-      split (eqb (get_or p 0 0) 0) (λ e. taken Acting _ _ _ e (load-src A n l r v))
+  load_file_lem : (n : ℕ) → length p ≡ 3 + 64 * n → FileIn w p n → Acting (load_file w (get_or p 0 0) (load_span p) p)
+  unfolding load_file
+  load_file_lem n l (shape.src f r v) =
+      split (eqb (get_or p 0 0) 0) (λ e. taken Acting _ _ _ e (load_src_lem A n l r v))
       (λ e. passed Acting _ _ _ e
-      (taken Acting (eqb (get_or p 0 0) 1) _ _ (one_of_two _ f (eqb-false (get_or p 0 0) 0 e)) (load-src B n l r v)))
-  load-file n l (shape.dst f r v) =
+      (taken Acting (eqb (get_or p 0 0) 1) _ _ (one_of_two _ f (eqb-false (get_or p 0 0) 0 e)) (load_src_lem B n l r v)))
+  load_file_lem n l (shape.dst f r v) =
       passed Acting (eqb (get_or p 0 0) 0) _ _ (ne_eqb (get_or p 0 0) 0 (λ e. omega (arith, f, e)))
       (passed Acting (eqb (get_or p 0 0) 1) _ _ (ne_eqb (get_or p 0 0) 1 (λ e. omega (arith, f, e)))
-      (taken Acting (eqb (get_or p 0 0) 2) _ _ (eq-eqb _ 2 f) (load-dst n l r v)))
+      (taken Acting (eqb (get_or p 0 0) 2) _ _ (eq-eqb _ 2 f) (load_dst_lem n l r v)))
 
-  some-rows : (n : ℕ) → FileIn w p n → (1 ≤ n) × (n ≤ 64)
-  some-rows n (shape.src f r v) = (r.some, r.most)
-  some-rows n (shape.dst f r v) = (r.some, r.most)
+  some_rows : (n : ℕ) → FileIn w p n → (1 ≤ n) × (n ≤ 64)
+  some_rows n (shape.src f r v) = (r.some, r.most)
+  some_rows n (shape.dst f r v) = (r.some, r.most)
 
-  load-acts : LoadRowsIn w p → Acting (loadRows w p)
-  unfolding loadRows
-  load-acts h =
+  load_acts : LoadRowsIn w p → Acting (load_rows w p)
+  unfolding load_rows
+  load_acts h =
       let n = h.count in
-      let s = some-rows n h.file in
-      taken Acting (all (loadLengthTests p)) _ _ (long-right n h.long s.0 s.1) (load-file n h.long h.file)
+      let s = some_rows n h.file in
+      taken Acting (all (load_length_tests p)) _ _ (long_right n h.long s.0 s.1) (load_file_lem n h.long h.file)
 
 -- ---- the other readers
 
 module _ (w : Width) (p : List ℕ) where
-  register-acts : RegisterNamed p 6 → Acting (loadRegister p)
-  unfolding loadRegister
-  register-acts h = taken Acting _ _ _ (eq-eqb _ 6 h.long) (taken Acting _ _ _ (register-right p 6 h) tt)
+  register_acts : RegisterNamed p 6 → Acting (load_register p)
+  unfolding load_register
+  register_acts h = taken Acting _ _ _ (eq-eqb _ 6 h.long) (taken Acting _ _ _ (register_right p 6 h) tt)
 
-  hand-acts : HandOverIn p → Acting (handOverFile p)
-  unfolding handOverFile
-  hand-acts h =
+  hand_acts : HandOverIn p → Acting (hand_over_file p)
+  unfolding hand_over_file
+  hand_acts h =
       taken Acting _ _ _ (eq-eqb _ 1 h.long)
       (split (eqb (get_or p 0 0) 0) (λ e. taken Acting _ _ _ e tt)
       (λ e. passed Acting _ _ _ e (taken Acting _ _ _ (one_of_two _ h.file (eqb-false (get_or p 0 0) 0 e)) tt)))
 
-  issue-acts : IssueIn p → Acting (issue p)
+  issue_acts : IssueIn p → Acting (issue p)
   unfolding issue
-  issue-acts h =
-      taken Acting _ _ _ (eq-eqb _ 5 h.long) (taken Acting (all (ltb (get_or p 0 0) threadCount ∷ [])) _ _ (all_of (ltb (get_or p 0 0) threadCount ∷ []) (upto 2 h.thread, tt)) tt)
+  issue_acts h =
+      taken Acting _ _ _ (eq-eqb _ 5 h.long) (taken Acting (all (ltb (get_or p 0 0) thread_count ∷ [])) _ _ (all_of (ltb (get_or p 0 0) thread_count ∷ []) (upto 2 h.thread, tt)) tt)
 
-  zero-acts : ZeroRowsIn w p → Acting (zeroRows w p)
-  unfolding zeroRows
-  zero-acts h = taken Acting _ _ _ (eq-eqb _ 4 h.long) (taken Acting _ _ _ (rows_right w _ _ _ h.rows) tt)
+  zero_acts : ZeroRowsIn w p → Acting (zero_rows w p)
+  unfolding zero_rows
+  zero_acts h = taken Acting _ _ _ (eq-eqb _ 4 h.long) (taken Acting _ _ _ (rows_right w _ _ _ h.rows) tt)
 
-  rows-prints : OutputRowsIn w p → Printing (outputRows w p)
-  unfolding outputRows
-  rows-prints h = taken Printing _ _ _ (eq-eqb _ 3 h.long) (taken Printing _ _ _ (rows_right w _ _ _ h.rows) tt)
+  rows_prints : OutputRowsIn w p → Printing (output_rows w p)
+  unfolding output_rows
+  rows_prints h = taken Printing _ _ _ (eq-eqb _ 3 h.long) (taken Printing _ _ _ (rows_right w _ _ _ h.rows) tt)
 
-  register-prints : RegisterNamed p 2 → Printing (outputRegister p)
-  unfolding outputRegister
-  register-prints h = taken Printing _ _ _ (eq-eqb _ 2 h.long) (taken Printing _ _ _ (register-right p 2 h) tt)
+  register_prints : RegisterNamed p 2 → Printing (output_register p)
+  unfolding output_register
+  register_prints h = taken Printing _ _ _ (eq-eqb _ 2 h.long) (taken Printing _ _ _ (register_right p 2 h) tt)
 
 -- ---- a field that is right is read
 
 module _ (w : Width) (f : FieldBytes) where
   -- what its reader finds
   abbrev pub found : Kind
-  found = readKind w f.tag f.payload
+  found = read_kind w f.tag f.payload
 
-  pub settles-kind : Settles f → found ≡ kind.Settings
-  unfolding readKind settingsKind
-  settles-kind h = simp (h.tag, eq-eqb (length f.payload) 160 h.right.long, settings-right f.payload h.right)
+  pub settles_kind : Settles f → found ≡ kind.Settings
+  unfolding read_kind settings_kind
+  settles_kind h = simp (h.tag, eq-eqb (length f.payload) 160 h.right.long, settings_right_lem f.payload h.right)
 
-  pub acts-kind : Acts w f → Acting found
-  unfolding readKind
-  acts-kind (shape.loadRows e h) = rw e (load-acts w f.payload h)
-  acts-kind (shape.loadRegister e h) = rw e (register-acts w f.payload h)
-  acts-kind (shape.handOver e h) = rw e (hand-acts w f.payload h)
-  acts-kind (shape.issue e h) = rw e (issue-acts w f.payload h)
-  acts-kind (shape.zeroRows e h) = rw e (zero-acts w f.payload h)
+  pub acts_kind : Acts w f → Acting found
+  unfolding read_kind
+  acts_kind (shape.load_rows e h) = rw e (load_acts w f.payload h)
+  acts_kind (shape.load_register e h) = rw e (register_acts w f.payload h)
+  acts_kind (shape.hand_over e h) = rw e (hand_acts w f.payload h)
+  acts_kind (shape.issue e h) = rw e (issue_acts w f.payload h)
+  acts_kind (shape.zero_rows e h) = rw e (zero_acts w f.payload h)
 
-  pub prints-kind : Prints w f → Printing found
-  unfolding readKind
-  prints-kind (shape.rows e h) = rw e (rows-prints w f.payload h)
-  prints-kind (shape.register e h) = rw e (register-prints w f.payload h)
+  pub prints_kind : Prints w f → Printing found
+  unfolding read_kind
+  prints_kind (shape.rows e h) = rw e (rows_prints w f.payload h)
+  prints_kind (shape.register e h) = rw e (register_prints w f.payload h)
 
   -- ---- and one that is read is right
 
-  pub kind-settles : found ≡ kind.Settings → Settles f
-  kind-settles e =
+  pub kind_settles : found ≡ kind.Settings → Settles f
+  kind_settles e =
       let s = subst (Says w f.tag f.payload) e (says w f.tag f.payload) in
-      record { tag = s.0; right = settings-in f.payload s.1 s.2 }
+      record { tag = s.0; right = settings_in f.payload s.1 s.2 }
 
-  load-count : (p : List ℕ) → Each (loadLengthTests p) → length p ≡ 3 + 64 * (loadSpan p).count
-  load-count p l = eqb-true _ _ l.1.1.0
+  load_count : (p : List ℕ) → Each (load_length_tests p) → length p ≡ 3 + 64 * (load_span p).count
+  load_count p l = eqb-true _ _ l.1.1.0
 
-  load-rows-in : (p : List ℕ) (m : ℕ) → Each (loadLengthTests p) → leb ((loadSpan p).first + (loadSpan p).count) m ≡ true → RowsInside (le2 p 1) (loadSpan p).count 64 m
-  load-rows-in p m l i = record { some = leb-true _ _ l.0; most = leb-true _ _ l.1.0; inside = leb-true _ _ i }
+  load_rows_in : (p : List ℕ) (m : ℕ) → Each (load_length_tests p) → leb ((load_span p).first + (load_span p).count) m ≡ true → RowsInside (le2 p 1) (load_span p).count 64 m
+  load_rows_in p m l i = record { some = leb-true _ _ l.0; most = leb-true _ _ l.1.0; inside = leb-true _ _ i }
 
-  file-number : (file : File) → fileNumber file ≤ 1
-  file-number A = omega arith
-  file-number B = omega arith
+  file_number_lem : (file : File) → file_number file ≤ 1
+  file_number_lem A = omega arith
+  file_number_lem B = omega arith
 
-  write-acts : (x : Write) → WriteSays w f.tag f.payload x → Acts w f
-  write-acts (write.LoadSrc file rows) s =
+  write_acts : (x : Write) → WriteSays w f.tag f.payload x → Acts w f
+  write_acts (write.LoadSrc file rows) s =
       let p = f.payload in
-      let t : Each (srcLoadTests (loadSpan p) p) = rw s.1 at s.4 in
-      shape.loadRows s.0
+      let t : Each (src_load_tests (load_span p) p) = rw s.1 at s.4 in
+      shape.load_rows s.0
       (record {
-        count = (loadSpan p).count;
-        long = load-count p s.3;
-        file = shape.src (omega (arith, file-number file, s.2)) (load-rows-in p 64 s.3 t.0) (values-in w p _ (2 ^ 19) t.1.0);
+        count = (load_span p).count;
+        long = load_count p s.3;
+        file = shape.src (omega (arith, file_number_lem file, s.2)) (load_rows_in p 64 s.3 t.0) (values_in w p _ (2 ^ 19) t.1.0);
       })
-  write-acts (write.LoadDst v rows) s =
+  write_acts (write.LoadDst v rows) s =
       let p = f.payload in
-      let t : Each (dstLoadTests w (loadSpan p) p) = rw (s.1, s.5) at s.4 in
-      shape.loadRows s.0
+      let t : Each (dst_load_tests w (load_span p) p) = rw (s.1, s.5) at s.4 in
+      shape.load_rows s.0
       (record {
-        count = (loadSpan p).count;
-        long = load-count p s.3;
-        file = shape.dst s.2 (load-rows-in p (rowCount w) s.3 t.0) (dst-in w p w _ t.1.0);
+        count = (load_span p).count;
+        long = load_count p s.3;
+        file = shape.dst s.2 (load_rows_in p (row_count w) s.3 t.0) (dst_in w p w _ t.1.0);
       })
-  write-acts (write.LoadRegister t r) s = shape.loadRegister s.0 (register-in f.payload 6 t r (eqb-true _ 6 s.3) s.1 s.2 s.4)
-  write-acts (write.ZeroRows v rows) s =
+  write_acts (write.LoadRegister t r) s = shape.load_register s.0 (register_in f.payload 6 t r (eqb-true _ 6 s.3) s.1 s.2 s.4)
+  write_acts (write.ZeroRows v rows) s =
       let p = f.payload in
-      let t : Each (dstRowsTests w (span (le2 p 0) (le2 p 2)) (rowCount w)) = rw (s.1, s.4) at s.0 in
-      shape.zeroRows s.2 (record { long = s.3; rows = rows_in w _ _ t })
+      let t : Each (dst_rows_tests w (span (le2 p 0) (le2 p 2)) (row_count w)) = rw (s.1, s.4) at s.0 in
+      shape.zero_rows s.2 (record { long = s.3; rows = rows_in w _ _ t })
 
-  pub kind-acts : Acting found → Acts w f
-  kind-acts a = go found (says w f.tag f.payload) a
+  pub kind_acts : Acting found → Acts w f
+  kind_acts a = go found (says w f.tag f.payload) a
     where
       go : (k : Kind) → Says w f.tag f.payload k → Acting k → Acts w f
       go kind.Settings s a = absurd a
-      go (kind.Issue t x) s a = shape.issue s.1 (record { long = s.2; thread = omega (arith, ltb-true t threadCount s.0, s.3) })
-      go (kind.HandOver file) s a = shape.handOver s.0 (record { long = s.1; file = omega (arith, file-number file, s.2) })
-      go (kind.Writes x) s a = write-acts x s
+      go (kind.Issue t x) s a = shape.issue s.1 (record { long = s.2; thread = omega (arith, ltb-true t thread_count s.0, s.3) })
+      go (kind.HandOver file) s a = shape.hand_over s.0 (record { long = s.1; file = omega (arith, file_number_lem file, s.2) })
+      go (kind.Writes x) s a = write_acts x s
       go (kind.Prints o) s a = absurd a
       go (kind.Wrong c) s a = absurd a
 
-  output-prints : (o : Output) → OutputSays w f.tag f.payload o → Prints w f
-  output-prints (output.Rows v rows) s =
+  output_prints : (o : Output) → OutputSays w f.tag f.payload o → Prints w f
+  output_prints (output.Rows v rows) s =
       let p = f.payload in
-      let t : Each (dstRowsTests w (span (le2 p 0) (get_or p 2 0)) mostRows) = rw (s.1, s.4) at s.0 in
+      let t : Each (dst_rows_tests w (span (le2 p 0) (get_or p 2 0)) most_rows) = rw (s.1, s.4) at s.0 in
       shape.rows s.2 (record { long = s.3; rows = rows_in w _ _ t })
-  output-prints (output.Register t r) s = shape.register s.1 (register-in f.payload 2 t r s.2 s.3 s.4 s.0)
+  output_prints (output.Register t r) s = shape.register s.1 (register_in f.payload 2 t r s.2 s.3 s.4 s.0)
 
-  pub kind-prints : Printing found → Prints w f
-  kind-prints a = go found (says w f.tag f.payload) a
+  pub kind_prints : Printing found → Prints w f
+  kind_prints a = go found (says w f.tag f.payload) a
     where
       go : (k : Kind) → Says w f.tag f.payload k → Printing k → Prints w f
       go kind.Settings s a = absurd a
       go (kind.Issue t x) s a = absurd a
       go (kind.HandOver file) s a = absurd a
       go (kind.Writes x) s a = absurd a
-      go (kind.Prints o) s a = output-prints o s
+      go (kind.Prints o) s a = output_prints o s
       go (kind.Wrong c) s a = absurd a

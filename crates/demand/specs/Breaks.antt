@@ -8,20 +8,20 @@ use Rattle.job.specs.declared.Kind.{Kind}
 use Rattle.job.specs.declared.Kind.TheVariants as kind
 use Rattle.job.specs.declared.Field.{Field}
 use Rattle.precheck.specs.Marks.{Marks}
-use Rattle.walk.specs.FieldRecord.{fieldControl}
-use Rattle.precheck.specs.Judging.{fieldRules}
-use Rattle.precheck.specs.Marking.{fieldMarks}
+use Rattle.walk.specs.FieldRecord.{field_control}
+use Rattle.precheck.specs.Judging.{field_rules}
+use Rattle.precheck.specs.Marking.{field_marks}
 
 -- rule r is among those broken
-unfoldable pub brokenRule : Refusal → List Judged → Bool
-brokenRule r [] = false
-brokenRule r (b ∷ bs) = (eqb (number_of b.rule) (number_of r) && b.broken) || brokenRule r bs
+unfoldable pub broken_rule : Refusal → List Judged → Bool
+broken_rule r [] = false
+broken_rule r (b ∷ bs) = (eqb (number_of b.rule) (number_of r) && b.broken) || broken_rule r bs
 
 -- field k breaks rule r, judged on the record and the marks that the fields before it leave
 unfoldable pub breaks : List ℕ → Control → Marks → List Field → ℕ → Refusal → Bool
 breaks job c m [] k r = false
-breaks job c m (f ∷ fs) zero r = brokenRule r (fieldRules c m f.kind)
-breaks job c m (f ∷ fs) (suc k) r = breaks job (fieldControl job c f.place f.kind) (fieldMarks c m f.kind) fs k r
+breaks job c m (f ∷ fs) zero r = broken_rule r (field_rules c m f.kind)
+breaks job c m (f ∷ fs) (suc k) r = breaks job (field_control job c f.place f.kind) (field_marks c m f.kind) fs k r
 
 -- p is the place of the first field that breaks a rule, and r the first in rank that it breaks: the lowest number (`Ranks`)
 pub record FirstBroken (job : List ℕ) (c : Control) (m : Marks) (fs : List Field) (r : Refusal) (p : ℕ) : Type 0 where
@@ -31,15 +31,15 @@ pub record FirstBroken (job : List ℕ) (c : Control) (m : Marks) (fs : List Fie
   pub lowest : (q : Refusal) → rank_of q < rank_of r → breaks job c m fs index q ≡ false
   pub first : (i : ℕ) (q : Refusal) → i < index → breaks job c m fs i q ≡ false
 
-abbrev pub isIssue : Kind → Bool
-isIssue kind.Settings = false
-isIssue (kind.Issue t w) = true
-isIssue (kind.HandOver file) = false
-isIssue (kind.Writes x) = false
-isIssue (kind.Prints o) = false
-isIssue (kind.Wrong x) = false
+abbrev pub is_issue : Kind → Bool
+is_issue kind.Settings = false
+is_issue (kind.Issue t w) = true
+is_issue (kind.HandOver file) = false
+is_issue (kind.Writes x) = false
+is_issue (kind.Prints o) = false
+is_issue (kind.Wrong x) = false
 
 -- the number of issue fields
-unfoldable pub issueFields : List Field → ℕ
-issueFields [] = 0
-issueFields (f ∷ fs) = cond (isIssue f.kind) (suc (issueFields fs)) (issueFields fs)
+unfoldable pub issue_fields : List Field → ℕ
+issue_fields [] = 0
+issue_fields (f ∷ fs) = cond (is_issue f.kind) (suc (issue_fields fs)) (issue_fields fs)

@@ -6,15 +6,15 @@ use Rattle.cells.specs.State.{State}
 use Rattle.word.specs.declared.Refusal.{Refusal}
 use Rattle.control.specs.declared.Control.{Control}
 use Rattle.rules.specs.declared.Verdict.TheVariants.{Done}
-use Rattle.step.specs.Step.{verdictOf, ifDone, steppedOf, state_of}
+use Rattle.step.specs.Step.{verdict_of, if_done, stepped_of, state_of}
 use Rattle.job.specs.declared.Kind.{Kind}
 use Rattle.job.specs.declared.Kind.TheVariants as kind
 use Rattle.job.specs.declared.Field.{Field}
 use Rattle.precheck.specs.Marks.{Marks}
-use Rattle.precheck.specs.Judging.{fieldRules}
-use Rattle.precheck.specs.Marking.{fieldMarks}
-use Rattle.run.specs.Perform.{performed, controlOn}
-use Rattle.demand.specs.Breaks.{brokenRule}
+use Rattle.precheck.specs.Judging.{field_rules}
+use Rattle.precheck.specs.Marking.{field_marks}
+use Rattle.run.specs.Perform.{performed, control_on}
+use Rattle.demand.specs.Breaks.{broken_rule}
 
 -- a field, and the record, the marks and the lent numbers that the fields before it leave
 pub record Meeting : Type 0 where
@@ -24,17 +24,17 @@ pub record Meeting : Type 0 where
   pub state : State
 
 -- what field k meets, the first of the list meeting c, m and s; after an instruction the record is the one that the single step gives back
--- (`controlOn`)
-unfoldable pub meetingAt : List ℕ → List Field → Control → Marks → State → ℕ → Option Meeting
-meetingAt job [] c m s k = none
-meetingAt job (f ∷ fs) c m s zero = some (record { field = f; control = c; marks = m; state = s })
-meetingAt job (f ∷ fs) c m s (suc k) =
-    meetingAt job fs (controlOn job c f.place f.kind s) (fieldMarks c m f.kind) (performed job c f.place f.kind s) k
+-- (`control_on`)
+unfoldable pub meeting_at : List ℕ → List Field → Control → Marks → State → ℕ → Option Meeting
+meeting_at job [] c m s k = none
+meeting_at job (f ∷ fs) c m s zero = some (record { field = f; control = c; marks = m; state = s })
+meeting_at job (f ∷ fs) c m s (suc k) =
+    meeting_at job fs (control_on job c f.place f.kind s) (field_marks c m f.kind) (performed job c f.place f.kind s) k
 
 -- a field is not refused: it breaks no rule, and the single step of an instruction is done
 pub record Goes (x : Meeting) : Type 0 where
-  pub unbroken : (r : Refusal) → brokenRule r (fieldRules x.control x.marks x.field.kind) ≡ false
-  pub done : (t w : ℕ) → x.field.kind ≡ kind.Issue t w → verdictOf x.control t w x.state ≡ Done
+  pub unbroken : (r : Refusal) → broken_rule r (field_rules x.control x.marks x.field.kind) ≡ false
+  pub done : (t w : ℕ) → x.field.kind ≡ kind.Issue t w → verdict_of x.control t w x.state ≡ Done
 
 -- the lent numbers after it
 abbrev pub leaves : List ℕ → Meeting → State
@@ -42,19 +42,19 @@ leaves job x = performed job x.control x.field.place x.field.kind x.state
 
 -- what the single step of an instruction gives back, record and lent numbers, is what the next field meets
 pub record StepsOn (x y : Meeting) : Type 0 where
-  pub control : (t w : ℕ) → x.field.kind ≡ kind.Issue t w → y.control ≡ (steppedOf x.control t w x.state).control
+  pub control : (t w : ℕ) → x.field.kind ≡ kind.Issue t w → y.control ≡ (stepped_of x.control t w x.state).control
   pub state : (t w : ℕ) → x.field.kind ≡ kind.Issue t w → y.state ≡ state_of x.control t w x.state
 
 -- 1 for an instruction whose single step is done
 abbrev pub done_of : Control → Kind → State → ℕ
 done_of c kind.Settings s = 0
-done_of c (kind.Issue t w) s = ifDone (verdictOf c t w s) 1 0
+done_of c (kind.Issue t w) s = if_done (verdict_of c t w s) 1 0
 done_of c (kind.HandOver file) s = 0
 done_of c (kind.Writes x) s = 0
 done_of c (kind.Prints o) s = 0
 done_of c (kind.Wrong x) s = 0
 
 -- how many of the fields are such instructions, each on the record and the lent numbers that the fields before it leave
-unfoldable pub stepsDone : List ℕ → List Field → Control → State → ℕ
-stepsDone job [] c s = 0
-stepsDone job (f ∷ fs) c s = done_of c f.kind s + stepsDone job fs (controlOn job c f.place f.kind s) (performed job c f.place f.kind s)
+unfoldable pub steps_done : List ℕ → List Field → Control → State → ℕ
+steps_done job [] c s = 0
+steps_done job (f ∷ fs) c s = done_of c f.kind s + steps_done job fs (control_on job c f.place f.kind s) (performed job c f.place f.kind s)

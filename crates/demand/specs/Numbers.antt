@@ -4,22 +4,22 @@ use Rattle.std.specs.Prelude.{true, ◌≡◌, List, [], ◌∷◌, map, ◌≢�
 use Rattle.std.proofs.Math.Option.{Option}
 use Rattle.cells.specs.Tests.{one_of}
 use Rattle.cells.specs.State.{State}
-use Rattle.word.specs.Fields.{refusedBy, wordAnswer}
-use Rattle.word.specs.Refusal.{number_of, tableNumbers, Answer, refused}
+use Rattle.word.specs.Fields.{refused_by, word_answer}
+use Rattle.word.specs.Refusal.{number_of, table_numbers, Answer, refused}
 use Rattle.word.specs.declared.Read.{Read}
 use Rattle.word.specs.declared.Refusal.{Refusal}
 use Rattle.word.specs.declared.Refusal.TheVariants.{StateLength, Shape, UnknownOpcode, UnnamedBit, UndefinedMode, UnmodelledSettings, BankOwner, DstRow, UnsetRead}
 use Rattle.control.specs.declared.Control.{Control}
-use Rattle.rules.specs.Rules.{Judged, lowestAnswer, unreadAnswer}
-use Rattle.step.specs.Step.{stepAnswer}
-use Rattle.job.specs.Answers.{answers, fieldAnswer, shapeAnswer}
-use Rattle.precheck.specs.Check.{precheckAnswer}
+use Rattle.rules.specs.Rules.{Judged, lowest_answer, unread_answer}
+use Rattle.step.specs.Step.{step_answer}
+use Rattle.job.specs.Answers.{answers, field_answer, shape_answer}
+use Rattle.precheck.specs.Check.{precheck_answer}
 use Rattle.precheck.specs.declared.Checked.{Checked}
-use Rattle.run.specs.Run.{runAnswer}
+use Rattle.run.specs.Run.{run_answer}
 use Rattle.run.specs.declared.Outcome.{Outcome}
-use Rattle.lines.specs.Text.{refusedText}
-use Rattle.lines.specs.Printed.{printedText, checkedText}
-use Rattle.lines.specs.Cursor.{printedFrom}
+use Rattle.lines.specs.Text.{refused_text}
+use Rattle.lines.specs.Printed.{printed_text, checked_text}
+use Rattle.lines.specs.Cursor.{printed_from}
 use Rattle.lines.specs.declared.Cursor.{Cursor}
 
 -- no refusal with 10, at whatever place and with whatever bit
@@ -28,28 +28,28 @@ NotTen x = (place : ℕ) (bit : Option ℕ) → x ≢ refused 10 place bit
 
 -- nor its line
 abbrev pub NotTenText : List ℕ → Type 0
-NotTenText x = (place : ℕ) (bit : Option ℕ) → x ≢ refusedText 10 place bit
+NotTenText x = (place : ℕ) (bit : Option ℕ) → x ≢ refused_text 10 place bit
 
 pub record NoTen : Type 0 where
   -- the other numbers keep their values
   pub values : (i : ℕ)
-      → map number_of (Shape ∷ UnknownOpcode ∷ UnnamedBit i ∷ UndefinedMode ∷ UnmodelledSettings ∷ BankOwner ∷ DstRow ∷ UnsetRead ∷ StateLength ∷ []) ≡ tableNumbers
+      → map number_of (Shape ∷ UnknownOpcode ∷ UnnamedBit i ∷ UndefinedMode ∷ UnmodelledSettings ∷ BankOwner ∷ DstRow ∷ UnsetRead ∷ StateLength ∷ []) ≡ table_numbers
   -- a refusal, whoever gives it, has a number of the table, and not 10: `word::number`
-  pub tabled : (r : Refusal) → one_of (number_of r) tableNumbers ≡ true
+  pub tabled : (r : Refusal) → one_of (number_of r) table_numbers ≡ true
   pub refusal : (r : Refusal) → number_of r ≢ 10
   -- `word::read_word`
-  pub word : (w : ℕ) (bit : Option ℕ) → wordAnswer w ≢ refusedBy 10 bit
+  pub word : (w : ℕ) (bit : Option ℕ) → word_answer w ≢ refused_by 10 bit
   -- the judges of `rules`, whatever rules they judge; `rules::verdict_of`
-  pub judges : (l : List Judged) → NotTen (lowestAnswer l)
-  pub unread : (r : Read) → NotTen (unreadAnswer r)
+  pub judges : (l : List Judged) → NotTen (lowest_answer l)
+  pub unread : (r : Read) → NotTen (unread_answer r)
   -- `step::step`
-  pub step : (c : Control) (t w : ℕ) (s : State) → NotTen (stepAnswer c t w s)
+  pub step : (c : Control) (t w : ℕ) (s : State) → NotTen (step_answer c t w s)
   -- `job::field_at`, `job::find_shape`
-  pub field : (job : List ℕ) (at place : ℕ) (bit : Option ℕ) → fieldAnswer job at ≢ answers (refused 10 place bit)
-  pub shape : (job : List ℕ) → NotTen (shapeAnswer job)
+  pub field : (job : List ℕ) (at place : ℕ) (bit : Option ℕ) → field_answer job at ≢ answers (refused 10 place bit)
+  pub shape : (job : List ℕ) → NotTen (shape_answer job)
   -- `precheck::precheck`, `run::run`
-  pub precheck : (job : List ℕ) → NotTen (precheckAnswer job)
-  pub run : (job : List ℕ) (s : State) → NotTen (runAnswer job s)
+  pub precheck : (job : List ℕ) → NotTen (precheck_answer job)
+  pub run : (job : List ℕ) (s : State) → NotTen (run_answer job s)
   -- `lines::next_text`, whatever the outcome and the cursor: text k of what is left to print there; `lines::checked_text`
-  pub texts : (job : List ℕ) (o : Outcome) (c : Cursor) (s : State) (k : ℕ) → NotTenText (get_or (map printedText (printedFrom job o c s)) k [])
-  pub checked : (x : Checked) → NotTenText (checkedText x)
+  pub texts : (job : List ℕ) (o : Outcome) (c : Cursor) (s : State) (k : ℕ) → NotTenText (get_or (map printed_text (printed_from job o c s)) k [])
+  pub checked : (x : Checked) → NotTenText (checked_text x)

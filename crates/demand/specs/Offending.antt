@@ -5,12 +5,12 @@ use Rattle.std.proofs.Math.Option.{Option, none, some}
 use Rattle.word.specs.Bits.{Range}
 use Rattle.word.specs.Table.{Row, table}
 use Rattle.word.specs.Refusal.{number_of, bit_of}
-use Rattle.word.specs.Fields.{refusedBy, wordAnswer}
+use Rattle.word.specs.Fields.{refused_by, word_answer}
 use Rattle.word.specs.declared.Refusal.{Refusal}
 use Rattle.word.specs.declared.Refusal.TheVariants.{UnknownOpcode}
 use Rattle.control.specs.declared.Control.{Control}
 use Rattle.rules.specs.Rules.{rules}
-use Rattle.demand.specs.Breaks.{brokenRule}
+use Rattle.demand.specs.Breaks.{broken_rule}
 
 -- ---- the bit
 
@@ -52,13 +52,13 @@ pub data WordTold (w n : ℕ) (x : Option ℕ) : Type 0 where
 
 -- the word reader refuses any word exactly so: with 2 whatever its bits, and 3 with the one lowest offending bit
 pub record WordBits (w : ℕ) : Type 0 where
-  pub told : (n : ℕ) (x : Option ℕ) → wordAnswer w ≡ refusedBy n x → WordTold w n x
-  pub two : ((r : Row) → RowFor w r → ⊥) → wordAnswer w ≡ refusedBy 2 none
-  pub three : (b : ℕ) → LowestOffending w b → wordAnswer w ≡ refusedBy 3 (some b)
+  pub told : (n : ℕ) (x : Option ℕ) → word_answer w ≡ refused_by n x → WordTold w n x
+  pub two : ((r : Row) → RowFor w r → ⊥) → word_answer w ≡ refused_by 2 none
+  pub three : (b : ℕ) → LowestOffending w b → word_answer w ≡ refused_by 3 (some b)
 
 -- and under any record and thread it breaks the rules 2 and 3 exactly then
 pub record RuleBits (c : Control) (t w : ℕ) : Type 0 where
-  pub unknown : brokenRule UnknownOpcode (rules c t w) ≡ true → (r : Row) → RowFor w r → ⊥
-  pub two : ((r : Row) → RowFor w r → ⊥) → brokenRule UnknownOpcode (rules c t w) ≡ true
-  pub offends : (q : Refusal) → number_of q ≡ 3 → brokenRule q (rules c t w) ≡ true → (b : ℕ) × LowestOffending w b
-  pub three : (q : Refusal) → number_of q ≡ 3 → (b : ℕ) → LowestOffending w b → brokenRule q (rules c t w) ≡ true
+  pub unknown : broken_rule UnknownOpcode (rules c t w) ≡ true → (r : Row) → RowFor w r → ⊥
+  pub two : ((r : Row) → RowFor w r → ⊥) → broken_rule UnknownOpcode (rules c t w) ≡ true
+  pub offends : (q : Refusal) → number_of q ≡ 3 → broken_rule q (rules c t w) ≡ true → (b : ℕ) × LowestOffending w b
+  pub three : (q : Refusal) → number_of q ≡ 3 → (b : ℕ) → LowestOffending w b → broken_rule q (rules c t w) ≡ true

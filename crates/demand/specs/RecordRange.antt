@@ -1,7 +1,7 @@
 -- Document 01, "The lent state and the control record": when a control record is in range, spelled out apart from the test that the single step goes by.
 -- Definitions only.
 use Rattle.std.specs.Prelude.{◌≡◌, ◌⊎◌, ℕ, ◌≤◌, ◌<◌, get_or}
-use Rattle.control.specs.Record.{startThread, zeroSlot}
+use Rattle.control.specs.Record.{start_thread, zero_slot}
 use Rattle.control.specs.declared.Slot.{Slot}
 use Rattle.control.specs.declared.Src.{Src}
 use Rattle.control.specs.declared.Banks.{Banks}
@@ -29,7 +29,7 @@ pub record CountersIn (x : Thread) : Type 0 where
   pub phase : x.phase ≤ 3
   pub offset : x.offset ≤ 1023
   pub fidelity : x.fidelity ≤ 3
-  pub slots : (s : ℕ) → s < 8 → StepsIn (get_or x.slots s zeroSlot)
+  pub slots : (s : ℕ) → s < 8 → StepsIn (get_or x.slots s zero_slot)
 
 -- the matrix unit's and the unpackers' pointer: 0 or 1
 pub record PointersIn (x : Banks) : Type 0 where
@@ -40,7 +40,7 @@ pub record PointersIn (x : Banks) : Type 0 where
 pub record RecordIn (c : Control) : Type 0 where
   pub format : c.settings.format ≤ 13
   pub base : c.settings.base ≤ 1023
-  pub threads : (t : ℕ) → t < 3 → CountersIn (get_or c.threads t startThread)
+  pub threads : (t : ℕ) → t < 3 → CountersIn (get_or c.threads t start_thread)
   pub srca : PointersIn c.a
   pub srcb : PointersIn c.b
   pub last : (c.last ≡ 0) ⊎ ((c.last ≡ 16) ⊎ ((c.last ≡ 32) ⊎ (c.last ≡ 48)))

@@ -4,9 +4,9 @@
 use Rattle.std.specs.Prelude.{◌≡◌, cond, List, [], ◌∷◌, ◌++◌, ℕ, suc, ◌+◌, ◌*◌, ◌^◌, ◌≤◌, ◌<◌, eqb, length, get_or}
 use Rattle.cells.specs.declared.Width.{Width}
 use Rattle.cells.specs.declared.Width.TheVariants.{Bits16}
-use Rattle.cells.specs.Places.{rowCount}
+use Rattle.cells.specs.Places.{row_count}
 use Rattle.job.specs.Bytes.{le2, le4}
-use Rattle.job.specs.Fields.{jobWidth}
+use Rattle.job.specs.Fields.{job_width}
 
 -- ---- a field is a one-byte tag, a two-byte length, low byte first, and a payload of that length
 
@@ -62,7 +62,7 @@ ValuesIn p n limit = (i : ℕ) → i < 16 * n → le4 p (3 + 4 * i) < limit
 -- file 0 SrcA or 1 SrcB: rows inside a bank (docs/DECISIONS.md, 14), values below 2^19; file 2 Dst: values of 16 bits below 2^16, of 32 bits any
 pub data FileIn (w : Width) (p : List ℕ) (n : ℕ) : Type 0 where
   src : get_or p 0 0 ≤ 1 → RowsInside (le2 p 1) n 64 64 → ValuesIn p n (2 ^ 19) → FileIn w p n
-  dst : get_or p 0 0 ≡ 2 → RowsInside (le2 p 1) n 64 (rowCount w) → (w ≡ Bits16 → ValuesIn p n (2 ^ 16)) → FileIn w p n
+  dst : get_or p 0 0 ≡ 2 → RowsInside (le2 p 1) n 64 (row_count w) → (w ≡ Bits16 → ValuesIn p n (2 ^ 16)) → FileIn w p n
 
 -- 2 load rows: file, first row, n rows
 pub record LoadRowsIn (w : Width) (p : List ℕ) : Type 0 where
@@ -89,12 +89,12 @@ pub record IssueIn (p : List ℕ) : Type 0 where
 -- 6 output rows: first Dst row, count
 pub record OutputRowsIn (w : Width) (p : List ℕ) : Type 0 where
   pub long : length p ≡ 3
-  pub rows : RowsInside (le2 p 0) (get_or p 2 0) 64 (rowCount w)
+  pub rows : RowsInside (le2 p 0) (get_or p 2 0) 64 (row_count w)
 
 -- 8 zero Dst rows: first row, count
 pub record ZeroRowsIn (w : Width) (p : List ℕ) : Type 0 where
   pub long : length p ≡ 4
-  pub rows : RowsInside (le2 p 0) (le2 p 2) (rowCount w) (rowCount w)
+  pub rows : RowsInside (le2 p 0) (le2 p 2) (row_count w) (row_count w)
 
 -- the settings; an output; a field that is neither
 pub record Settles (f : FieldBytes) : Type 0 where
@@ -106,11 +106,11 @@ pub data Prints (w : Width) (f : FieldBytes) : Type 0 where
   register : f.tag ≡ 7 → RegisterNamed f.payload 2 → Prints w f
 
 pub data Acts (w : Width) (f : FieldBytes) : Type 0 where
-  loadRows : f.tag ≡ 2 → LoadRowsIn w f.payload → Acts w f
-  loadRegister : f.tag ≡ 3 → RegisterNamed f.payload 6 → Acts w f
-  handOver : f.tag ≡ 4 → HandOverIn f.payload → Acts w f
+  load_rows : f.tag ≡ 2 → LoadRowsIn w f.payload → Acts w f
+  load_register : f.tag ≡ 3 → RegisterNamed f.payload 6 → Acts w f
+  hand_over : f.tag ≡ 4 → HandOverIn f.payload → Acts w f
   issue : f.tag ≡ 5 → IssueIn f.payload → Acts w f
-  zeroRows : f.tag ≡ 8 → ZeroRowsIn w f.payload → Acts w f
+  zero_rows : f.tag ≡ 8 → ZeroRowsIn w f.payload → Acts w f
 
 -- ---- the shape is right
 
@@ -127,8 +127,8 @@ pub record WellShaped (job : List ℕ) : Type 0 where
   pub outputs : List FieldBytes
   pub whole : job ≡ joined (settings ∷ acting ++ outputs)
   pub settles : Settles settings
-  pub acts : EachOf (Acts (jobWidth job)) acting
-  pub prints : EachOf (Prints (jobWidth job)) outputs
+  pub acts : EachOf (Acts (job_width job)) acting
+  pub prints : EachOf (Prints (job_width job)) outputs
   pub some : 1 ≤ length outputs
 
 -- its fields, and how many fields of a list have a tag
@@ -156,11 +156,11 @@ AllInPlace w before (f ∷ fs) = InPlace w before f × AllInPlace w (before ++ f
 -- place 0 of a job over 8,192 bytes; the length of one whose fields are all right and none an output; or the place where fields that are all
 -- right and in place end and none that is comes next
 pub data FirstWrong (job : List ℕ) (place : ℕ) : Type 0 where
-  overLong : 8192 < length job → place ≡ 0 → FirstWrong job place
-  noOutput : length job ≤ 8192 → (fs : List FieldBytes) → job ≡ joined fs → AllInPlace (jobWidth job) [] fs
-      → EachOf (λ g. Prints (jobWidth job) g → ⊥) fs
+  over_long : 8192 < length job → place ≡ 0 → FirstWrong job place
+  no_output : length job ≤ 8192 → (fs : List FieldBytes) → job ≡ joined fs → AllInPlace (job_width job) [] fs
+      → EachOf (λ g. Prints (job_width job) g → ⊥) fs
       → place ≡ length job → FirstWrong job place
-  wrongField : length job ≤ 8192 → (before : List FieldBytes) (rest : List ℕ) → job ≡ joined before ++ rest → 1 ≤ length rest
-      → AllInPlace (jobWidth job) [] before
-      → ((f : FieldBytes) (more : List ℕ) → rest ≡ bytes_of f ++ more → InPlace (jobWidth job) before f → ⊥)
+  wrong_field : length job ≤ 8192 → (before : List FieldBytes) (rest : List ℕ) → job ≡ joined before ++ rest → 1 ≤ length rest
+      → AllInPlace (job_width job) [] before
+      → ((f : FieldBytes) (more : List ℕ) → rest ≡ bytes_of f ++ more → InPlace (job_width job) before f → ⊥)
       → place ≡ length (joined before) → FirstWrong job place

@@ -6,12 +6,12 @@ use Rattle.cells.specs.declared.layout.File.{File}
 use Rattle.cells.specs.declared.layout.File.TheVariants.{A, B}
 use Rattle.cells.specs.declared.layout.Span.{Span}
 use Rattle.cells.specs.declared.Width.{Width}
-use Rattle.cells.specs.Places.{rowCount, limitOf}
+use Rattle.cells.specs.Places.{row_count, limit_of}
 use Rattle.word.specs.Refusal.{Answer, done, answer_of}
 use Rattle.word.specs.declared.Refusal.TheVariants as refusal
 use Rattle.job.specs.Bytes.{le2, le4}
-use Rattle.job.specs.Kinds.{loadSpan}
-use Rattle.job.specs.Fields.{payloadAt, jobWidth, field_at}
+use Rattle.job.specs.Kinds.{load_span}
+use Rattle.job.specs.Fields.{payload_at, job_width, field_at}
 use Rattle.job.specs.Shape.{shape_of}
 use Rattle.job.specs.declared.Write.{Write}
 use Rattle.job.specs.declared.Write.TheVariants.{LoadSrc, LoadDst, LoadRegister, ZeroRows}
@@ -25,11 +25,11 @@ use Rattle.job.specs.declared.Shape.TheVariants.{Right, WrongAt}
 
 -- ---- the width of Dst's rows: how many there are, and below what their numbers are
 
-abbrev pub widthNumbers : Width → List ℕ
-widthNumbers w = rowCount w ∷ limitOf w ∷ []
+abbrev pub width_numbers : Width → List ℕ
+width_numbers w = row_count w ∷ limit_of w ∷ []
 
-abbrev pub widthAnswer : List ℕ → List ℕ
-widthAnswer job = widthNumbers (jobWidth job)
+abbrev pub width_answer : List ℕ → List ℕ
+width_answer job = width_numbers (job_width job)
 
 -- ---- a field
 
@@ -39,40 +39,40 @@ pub data FieldAnswer : Type 0 where
   answers : Answer → FieldAnswer
 
 -- the number of a Src file; Dst is 2
-abbrev pub fileNumber : File → ℕ
-fileNumber A = 0
-fileNumber B = 1
+abbrev pub file_number : File → ℕ
+file_number A = 0
+file_number B = 1
 
 -- first row and count
-abbrev pub rowNumbers : Span → List ℕ
-rowNumbers rows = rows.first ∷ rows.count ∷ []
+abbrev pub row_numbers : Span → List ℕ
+row_numbers rows = rows.first ∷ rows.count ∷ []
 
-abbrev pub writeNumbers : Write → FieldAnswer
-writeNumbers (LoadSrc file rows) = carries 2 (fileNumber file ∷ rowNumbers rows)
-writeNumbers (LoadDst w rows) = carries 2 (2 ∷ rowNumbers rows)
-writeNumbers (LoadRegister t r) = carries 3 (t ∷ r ∷ [])
-writeNumbers (ZeroRows w rows) = carries 8 (rowNumbers rows)
+abbrev pub write_numbers : Write → FieldAnswer
+write_numbers (LoadSrc file rows) = carries 2 (file_number file ∷ row_numbers rows)
+write_numbers (LoadDst w rows) = carries 2 (2 ∷ row_numbers rows)
+write_numbers (LoadRegister t r) = carries 3 (t ∷ r ∷ [])
+write_numbers (ZeroRows w rows) = carries 8 (row_numbers rows)
 
-abbrev pub outputNumbers : Output → FieldAnswer
-outputNumbers (Rows w rows) = carries 6 (rowNumbers rows)
-outputNumbers (Register t r) = carries 7 (t ∷ r ∷ [])
+abbrev pub output_numbers : Output → FieldAnswer
+output_numbers (Rows w rows) = carries 6 (row_numbers rows)
+output_numbers (Register t r) = carries 7 (t ∷ r ∷ [])
 
 -- of a field at this place
-abbrev pub kindNumbers : ℕ → Kind → FieldAnswer
-kindNumbers place kind.Settings = carries 1 []
-kindNumbers place (kind.Issue t w) = carries 5 (t ∷ w ∷ [])
-kindNumbers place (kind.HandOver file) = carries 4 (fileNumber file ∷ [])
-kindNumbers place (kind.Writes x) = writeNumbers x
-kindNumbers place (kind.Prints o) = outputNumbers o
-kindNumbers place (kind.Wrong c) = answers (answer_of refusal.Shape place)
+abbrev pub kind_numbers : ℕ → Kind → FieldAnswer
+kind_numbers place kind.Settings = carries 1 []
+kind_numbers place (kind.Issue t w) = carries 5 (t ∷ w ∷ [])
+kind_numbers place (kind.HandOver file) = carries 4 (file_number file ∷ [])
+kind_numbers place (kind.Writes x) = write_numbers x
+kind_numbers place (kind.Prints o) = output_numbers o
+kind_numbers place (kind.Wrong c) = answers (answer_of refusal.Shape place)
 
-abbrev pub fieldNumbers : Field → FieldAnswer
-fieldNumbers f = kindNumbers f.place f.kind
+abbrev pub field_numbers : Field → FieldAnswer
+field_numbers f = kind_numbers f.place f.kind
 
 -- the numbers that stand in a payload with this tag, in the table's order; a load's count of rows follows from its length
-abbrev pub payloadNumbers : ℕ → List ℕ → List ℕ
-payloadNumbers tag p =
-    cond (eqb tag 2) (get_or p 0 0 ∷ rowNumbers (loadSpan p))
+abbrev pub payload_numbers : ℕ → List ℕ → List ℕ
+payload_numbers tag p =
+    cond (eqb tag 2) (get_or p 0 0 ∷ row_numbers (load_span p))
     (cond (eqb tag 3) (get_or p 0 0 ∷ get_or p 1 0 ∷ [])
     (cond (eqb tag 4) (get_or p 0 0 ∷ [])
     (cond (eqb tag 5) (get_or p 0 0 ∷ le4 p 1 ∷ [])
@@ -83,22 +83,22 @@ payloadNumbers tag p =
 
 -- what stands at a place: a wrong field is refused with 1 there, any other has its tag and the numbers of its payload
 abbrev pub standing : Kind → ℕ → ℕ → List ℕ → FieldAnswer
-standing kind.Settings place tag p = carries tag (payloadNumbers tag p)
-standing (kind.Issue t w) place tag p = carries tag (payloadNumbers tag p)
-standing (kind.HandOver file) place tag p = carries tag (payloadNumbers tag p)
-standing (kind.Writes x) place tag p = carries tag (payloadNumbers tag p)
-standing (kind.Prints o) place tag p = carries tag (payloadNumbers tag p)
+standing kind.Settings place tag p = carries tag (payload_numbers tag p)
+standing (kind.Issue t w) place tag p = carries tag (payload_numbers tag p)
+standing (kind.HandOver file) place tag p = carries tag (payload_numbers tag p)
+standing (kind.Writes x) place tag p = carries tag (payload_numbers tag p)
+standing (kind.Prints o) place tag p = carries tag (payload_numbers tag p)
 standing (kind.Wrong c) place tag p = answers (answer_of refusal.Shape place)
 
 -- the field whose tag stands at `at`, by the job's bytes
-abbrev pub fieldAnswer : List ℕ → ℕ → FieldAnswer
-fieldAnswer job at = standing (field_at job at).kind at (get_or job at 0) (payloadAt job at)
+abbrev pub field_answer : List ℕ → ℕ → FieldAnswer
+field_answer job at = standing (field_at job at).kind at (get_or job at 0) (payload_at job at)
 
 -- ---- the shape
 
-abbrev pub shapeNumbers : Shape → Answer
-shapeNumbers Right = done
-shapeNumbers (WrongAt place) = answer_of refusal.Shape place
+abbrev pub shape_numbers : Shape → Answer
+shape_numbers Right = done
+shape_numbers (WrongAt place) = answer_of refusal.Shape place
 
-abbrev pub shapeAnswer : List ℕ → Answer
-shapeAnswer job = shapeNumbers (shape_of job)
+abbrev pub shape_answer : List ℕ → Answer
+shape_answer job = shape_numbers (shape_of job)

@@ -1,8 +1,8 @@
 // The fields of a job, one after the other.
 ghost use Rattle.std.specs.Prelude.{◌≡◌};
-ghost use Rattle.job.specs.Kinds.{readKind};
-ghost use Rattle.job.specs.Fields.{payloadAt, jobWidth, wholeField, field_at};
-ghost use Rattle.job.specs.Answers.{widthNumbers, widthAnswer, fieldNumbers, fieldAnswer};
+ghost use Rattle.job.specs.Kinds.{read_kind};
+ghost use Rattle.job.specs.Fields.{payload_at, job_width, whole_field, field_at};
+ghost use Rattle.job.specs.Answers.{width_numbers, width_answer, field_numbers, field_answer};
 
 use crate::bytes::{byte_at, bytes_left, read2, wide};
 use crate::{Cause, Field, Kind, payload};
@@ -10,8 +10,8 @@ use cells::{THREAD_REGISTERS, THREADS, Width};
 
 // The width of Dst's rows, from the settings' format and flags: they come first.
 pub fn job_width(job: &[u8]) -> Width
-    ensures width { result ≡ jobWidth job.now }
-    ensures answer { widthNumbers result ≡ widthAnswer job.now }
+    ensures width { result ≡ job_width job.now }
+    ensures answer { width_numbers result ≡ width_answer job.now }
 {
     let flags = byte_at(job, 4);
     control::width_from(
@@ -25,7 +25,7 @@ pub fn job_width(job: &[u8]) -> Width
 // A whole field by its tag; those of Dst rows go by the job's width. The field is made in each arm: one kind for all
 // of them would be put together byte by byte.
 fn read_field(job: &[u8], place: usize, tag: u8, payload: &[u8], next: usize) -> Field
-    ensures { result ≡ wholeField place (readKind (jobWidth job.now) tag payload.now) next }
+    ensures { result ≡ whole_field place (read_kind (job_width job.now) tag payload.now) next }
 {
     match tag {
         1 => Field {
@@ -78,7 +78,7 @@ fn read_field(job: &[u8], place: usize, tag: u8, payload: &[u8], next: usize) ->
 
 // The payload of the field whose tag stands at `at`: a part of the job's bytes, of a cut field what is left of it.
 pub fn payload_at(job: &[u8], at: usize) -> &[u8]
-    ensures { result.now ≡ payloadAt job.now at }
+    ensures { result.now ≡ payload_at job.now at }
 {
     let n = job.len();
     if n < 3 {
@@ -127,7 +127,7 @@ pub(crate) fn any_field_at(job: &[u8], at: usize) -> Field
 // tests then fall away.
 pub fn field_at(job: &[u8], at: usize) -> Field
     ensures field { result ≡ field_at job.now at }
-    ensures answer { fieldNumbers result ≡ fieldAnswer job.now at }
+    ensures answer { field_numbers result ≡ field_answer job.now at }
 {
     if 9 <= bytes_left(job, at) {
         let tag = job[at];

@@ -1,10 +1,10 @@
 // Loads of rows: the numbers of a payload go into a file of numbers.
 ghost use Rattle.std.specs.Prelude.{◌≡◌, ◌+◌, ◌-◌, ◌*◌, ◌≤◌, length};
 ghost use Rattle.cells.specs.Cells.{between};
-ghost use Rattle.cells.specs.Places.{overAt};
-ghost use Rattle.cells.specs.Parts.{place_in, overPart};
+ghost use Rattle.cells.specs.Places.{over_at};
+ghost use Rattle.cells.specs.Parts.{place_in, over_part};
 ghost use Rattle.cells.specs.Layout.{span};
-ghost use Rattle.job.specs.Loading.{valueFrom, loaded};
+ghost use Rattle.job.specs.Loading.{value_from, loaded};
 
 use crate::bytes::{bytes_left, number_at, read4};
 use cells::{COLUMNS, Part, Span, Width};
@@ -13,7 +13,7 @@ use cells::{COLUMNS, Part, Span, Width};
 // stands at `base`.
 fn load_part(part: Part, base: usize, payload: &[u8], lo: usize, hi: usize, file: &mut [u32])
     requires { (lo ≤ hi) × (base ≡ place_in part (length file.old) 0) × (4 * (hi - lo) ≤ length payload.now - 3) }
-    ensures { file.new ≡ overPart part lo hi (valueFrom payload.now lo) file.old }
+    ensures { file.new ≡ over_part part lo hi (value_from payload.now lo) file.old }
 {
     let n = file.len();
     let end = cells::cut_in(part, n, hi);
@@ -28,7 +28,7 @@ fn load_part(part: Part, base: usize, payload: &[u8], lo: usize, hi: usize, file
 // The places from `lo` on and before `hi` get the numbers of a payload, all of which stand inside it.
 fn load_places(width: Width, payload: &[u8], lo: usize, hi: usize, file: &mut [u32])
     requires { (lo ≤ hi) × (4 * (hi - lo) ≤ length payload.now - 3) }
-    ensures { file.new ≡ overAt width (between lo hi) (valueFrom payload.now lo) file.old }
+    ensures { file.new ≡ over_at width (between lo hi) (value_from payload.now lo) file.old }
 {
     match width {
         Width::Bits32 => load_part(Part::Whole, 0, payload, lo, hi, file),

@@ -1,7 +1,7 @@
 // The shape of a job: the order of its fields.
 ghost use Rattle.std.specs.Prelude.{◌≡◌};
-ghost use Rattle.job.specs.Shape.{settingsAt, actingAt, printingAt, placed, shapeAtEnd, shape_of};
-ghost use Rattle.job.specs.Answers.{shapeNumbers, shapeAnswer};
+ghost use Rattle.job.specs.Shape.{settings_at, acting_at, printing_at, placed, shape_at_end, shape_of};
+ghost use Rattle.job.specs.Answers.{shape_numbers, shape_answer};
 
 use crate::fields::{any_field_at, field_at};
 use crate::{Cause, Kind, Shape};
@@ -23,7 +23,7 @@ pub enum Placed {
 }
 
 fn settings_at(stage: Stage) -> Placed
-    ensures { result ≡ settingsAt stage }
+    ensures { result ≡ settings_at stage }
 {
     match stage {
         Stage::Opening => Placed::InPlace(Stage::Acting),
@@ -33,7 +33,7 @@ fn settings_at(stage: Stage) -> Placed
 }
 
 fn acting_at(stage: Stage) -> Placed
-    ensures { result ≡ actingAt stage }
+    ensures { result ≡ acting_at stage }
 {
     match stage {
         Stage::Opening => Placed::NotRight(Cause::Position),
@@ -43,7 +43,7 @@ fn acting_at(stage: Stage) -> Placed
 }
 
 fn printing_at(stage: Stage) -> Placed
-    ensures { result ≡ printingAt stage }
+    ensures { result ≡ printing_at stage }
 {
     match stage {
         Stage::Opening => Placed::NotRight(Cause::Position),
@@ -66,7 +66,7 @@ fn place_field(stage: Stage, kind: Kind) -> Placed
 }
 
 fn shape_at_end(n: usize, stage: Stage) -> Shape
-    ensures { result ≡ shapeAtEnd n stage }
+    ensures { result ≡ shape_at_end n stage }
 {
     match stage {
         Stage::Opening => Shape::WrongAt(n),
@@ -77,7 +77,7 @@ fn shape_at_end(n: usize, stage: Stage) -> Shape
 
 pub fn find_shape(job: &[u8]) -> Shape
     ensures shape { result ≡ shape_of job.now }
-    ensures answer { shapeNumbers result ≡ shapeAnswer job.now }
+    ensures answer { shape_numbers result ≡ shape_answer job.now }
 {
     let n = job.len();
     if JOB_BYTES < n {

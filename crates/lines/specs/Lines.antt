@@ -2,10 +2,10 @@
 -- thread, register and value. The values are read from the final state. Definitions only.
 use Rattle.std.specs.Prelude.{List, [], ◌∷◌, ◌++◌, ℕ, zero, suc, ◌+◌, get_or}
 use Rattle.cells.specs.declared.Width.{Width}
-use Rattle.cells.specs.Layout.{columnCount, register, cell}
+use Rattle.cells.specs.Layout.{column_count, register, cell}
 use Rattle.cells.specs.Places.{get_at}
 use Rattle.cells.specs.State.{State}
-use Rattle.job.specs.Fields.{fieldsFrom}
+use Rattle.job.specs.Fields.{fields_from}
 use Rattle.job.specs.declared.Output.{Output}
 use Rattle.job.specs.declared.Output.TheVariants.{Rows, Register}
 use Rattle.job.specs.declared.Kind.{Kind}
@@ -25,27 +25,27 @@ columns w l r k (suc n) = get_at w l (cell r k) ∷ columns w l r (suc k) n
 -- n rows from `first` on, a line each
 unfoldable pub row_lines : Width → List ℕ → ℕ → ℕ → List Line
 row_lines w l first zero = []
-row_lines w l first (suc n) = row w first (columns w l first 0 columnCount) ∷ row_lines w l (suc first) n
+row_lines w l first (suc n) = row w first (columns w l first 0 column_count) ∷ row_lines w l (suc first) n
 
 -- the lines of an output
-unfoldable pub outputLines : Output → State → List Line
-outputLines (Rows w rows) s = row_lines w s.dst rows.first rows.count
-outputLines (Register t r) s = value t r (get_or s.registers (register t r) 0) ∷ []
+unfoldable pub output_lines : Output → State → List Line
+output_lines (Rows w rows) s = row_lines w s.dst rows.first rows.count
+output_lines (Register t r) s = value t r (get_or s.registers (register t r) 0) ∷ []
 
 -- the lines of a field: outputs alone have some
-unfoldable pub fieldLines : Kind → State → List Line
-fieldLines kind.Settings s = []
-fieldLines (kind.Issue t w) s = []
-fieldLines (kind.HandOver file) s = []
-fieldLines (kind.Writes x) s = []
-fieldLines (kind.Prints o) s = outputLines o s
-fieldLines (kind.Wrong x) s = []
+unfoldable pub field_lines : Kind → State → List Line
+field_lines kind.Settings s = []
+field_lines (kind.Issue t w) s = []
+field_lines (kind.HandOver file) s = []
+field_lines (kind.Writes x) s = []
+field_lines (kind.Prints o) s = output_lines o s
+field_lines (kind.Wrong x) s = []
 
 -- field by field, in file order
 unfoldable pub lines_from : List Field → State → List Line
 lines_from [] s = []
-lines_from (f ∷ fs) s = fieldLines f.kind s ++ lines_from fs s
+lines_from (f ∷ fs) s = field_lines f.kind s ++ lines_from fs s
 
 -- the lines of a job over a state
 unfoldable pub lines_of : List ℕ → State → List Line
-lines_of job s = lines_from (fieldsFrom job 0) s
+lines_of job s = lines_from (fields_from job 0) s

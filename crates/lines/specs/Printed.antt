@@ -10,7 +10,7 @@ use Rattle.run.specs.Run.{Ran}
 use Rattle.run.specs.declared.Outcome.{Outcome}
 use Rattle.run.specs.declared.Outcome.TheVariants.{Finished, Refused}
 use Rattle.lines.specs.Lines.{Line, lines_of}
-use Rattle.lines.specs.Text.{text_of, finishedText, refusedText, passedText}
+use Rattle.lines.specs.Text.{text_of, finished_text, refused_text, passed_text}
 
 -- the count of a finished job, the number, the place and, if any, the bit of a refusal, or a line
 pub data Printed : Type 0 where
@@ -19,23 +19,23 @@ pub data Printed : Type 0 where
   line : Line → Printed
 
 -- by the outcome of a run and the state that it leaves
-unfoldable pub printedBy : List ℕ → Outcome → State → List Printed
-printedBy job (Finished n) s = finished n ∷ map line (lines_of job s)
-printedBy job (Refused r place) s = refused (number_of r) place (bit_of r) ∷ []
+unfoldable pub printed_by : List ℕ → Outcome → State → List Printed
+printed_by job (Finished n) s = finished n ∷ map line (lines_of job s)
+printed_by job (Refused r place) s = refused (number_of r) place (bit_of r) ∷ []
 
-abbrev pub printedOf : List ℕ → Ran → List Printed
-printedOf job r = printedBy job r.outcome r.state
+abbrev pub printed_of : List ℕ → Ran → List Printed
+printed_of job r = printed_by job r.outcome r.state
 
 -- as texts
-unfoldable pub printedText : Printed → List ℕ
-printedText (finished n) = finishedText n
-printedText (refused n place i) = refusedText n place i
-printedText (line l) = text_of l
+unfoldable pub printed_text : Printed → List ℕ
+printed_text (finished n) = finished_text n
+printed_text (refused n place i) = refused_text n place i
+printed_text (line l) = text_of l
 
-abbrev pub textsOf : List ℕ → Ran → List (List ℕ)
-textsOf job r = map printedText (printedOf job r)
+abbrev pub texts_of : List ℕ → Ran → List (List ℕ)
+texts_of job r = map printed_text (printed_of job r)
 
 -- what a pre-check prints: one text
-unfoldable pub checkedText : Checked → List ℕ
-checkedText (checked.Passed n) = passedText n
-checkedText (checked.Refused r place) = refusedText (number_of r) place (bit_of r)
+unfoldable pub checked_text : Checked → List ℕ
+checked_text (checked.Passed n) = passed_text n
+checked_text (checked.Refused r place) = refused_text (number_of r) place (bit_of r)

@@ -3,8 +3,8 @@
 -- which the first `len` count. Definitions only.
 use Rattle.std.specs.Prelude.{cond, ◌≡◌, List, [], ◌∷◌, ◌++◌, ℕ, zero, suc, ◌+◌, ◌/◌, ◌%◌, ◌≤◌, ltb, length, get_or, set, take, replicate}
 use Rattle.std.proofs.Math.Option.{Option, none, some}
-use Rattle.cells.specs.Places.{digitsOf}
-use Rattle.cells.specs.Layout.{columnCount, register}
+use Rattle.cells.specs.Places.{digits_of}
+use Rattle.cells.specs.Layout.{column_count, register}
 use Rattle.lines.specs.Lines.{Line, row, value, columns}
 use Rattle.lines.specs.declared.Text.{Text}
 use Rattle.lines.specs.declared.found.What.{What}
@@ -12,8 +12,8 @@ use Rattle.lines.specs.declared.found.What.TheVariants as what
 
 -- ---- a text and what is written to it
 
-unfoldable pub emptyText : Text
-emptyText = record { bytes = replicate 160 0; len = 0 }
+unfoldable pub empty_text : Text
+empty_text = record { bytes = replicate 160 0; len = 0 }
 
 -- a full text stays as it is
 unfoldable pub pushed : Text → ℕ → Text
@@ -25,62 +25,62 @@ wrote t (b ∷ bs) = wrote (pushed t b) bs
 
 -- the text of a list of bytes
 abbrev pub made : List ℕ → Text
-made l = wrote emptyText l
+made l = wrote empty_text l
 
 -- the bytes that count
-abbrev pub bytesIn : Text → List ℕ
-bytesIn t = take t.len t.bytes
+abbrev pub bytes_in : Text → List ℕ
+bytes_in t = take t.len t.bytes
 
 -- they are this list, all of it
 pub record Holds (t : Text) (l : List ℕ) : Type 0 where
   pub short : t.len ≤ 160
   pub size : t.len ≡ length l
-  pub first : bytesIn t ≡ l
+  pub first : bytes_in t ≡ l
 
 -- ---- numbers
 
 -- at most suc k decimal digits, the last one last; no zero in front
-unfoldable pub decimalUpTo : ℕ → ℕ → List ℕ
-decimalUpTo zero n = (48 + n % 10) ∷ []
-decimalUpTo (suc k) n = cond (ltb n 10) ((48 + n) ∷ []) (decimalUpTo k (n / 10) ++ (48 + n % 10) ∷ [])
+unfoldable pub decimal_up_to : ℕ → ℕ → List ℕ
+decimal_up_to zero n = (48 + n % 10) ∷ []
+decimal_up_to (suc k) n = cond (ltb n 10) ((48 + n) ∷ []) (decimal_up_to k (n / 10) ++ (48 + n % 10) ∷ [])
 
 unfoldable pub decimal : ℕ → List ℕ
-decimal n = decimalUpTo n n
+decimal n = decimal_up_to n n
 
 -- 0 to 9, then a to f
-unfoldable pub hexDigit : ℕ → ℕ
-hexDigit d = cond (ltb d 10) (48 + d) (87 + d)
+unfoldable pub hex_digit : ℕ → ℕ
+hex_digit d = cond (ltb d 10) (48 + d) (87 + d)
 
 -- the last k hexadecimal digits, zeros in front
 unfoldable pub hex : ℕ → ℕ → List ℕ
 hex zero v = []
-hex (suc k) v = hex k (v / 16) ++ hexDigit (v % 16) ∷ []
+hex (suc k) v = hex k (v / 16) ++ hex_digit (v % 16) ∷ []
 
 -- ---- words, each with the space after it
 
 -- `D `, `G `
-abbrev pub wordRow : List ℕ
-wordRow = 68 ∷ 32 ∷ []
+abbrev pub word_row : List ℕ
+word_row = 68 ∷ 32 ∷ []
 
-abbrev pub wordRegister : List ℕ
-wordRegister = 71 ∷ 32 ∷ []
+abbrev pub word_register : List ℕ
+word_register = 71 ∷ 32 ∷ []
 
 -- `finished `, `passed `
-abbrev pub wordFinished : List ℕ
-wordFinished = 102 ∷ 105 ∷ 110 ∷ 105 ∷ 115 ∷ 104 ∷ 101 ∷ 100 ∷ 32 ∷ []
+abbrev pub word_finished : List ℕ
+word_finished = 102 ∷ 105 ∷ 110 ∷ 105 ∷ 115 ∷ 104 ∷ 101 ∷ 100 ∷ 32 ∷ []
 
-abbrev pub wordPassed : List ℕ
-wordPassed = 112 ∷ 97 ∷ 115 ∷ 115 ∷ 101 ∷ 100 ∷ 32 ∷ []
+abbrev pub word_passed : List ℕ
+word_passed = 112 ∷ 97 ∷ 115 ∷ 115 ∷ 101 ∷ 100 ∷ 32 ∷ []
 
 -- `refused `, ` at `, ` bit `
-abbrev pub wordRefused : List ℕ
-wordRefused = 114 ∷ 101 ∷ 102 ∷ 117 ∷ 115 ∷ 101 ∷ 100 ∷ 32 ∷ []
+abbrev pub word_refused : List ℕ
+word_refused = 114 ∷ 101 ∷ 102 ∷ 117 ∷ 115 ∷ 101 ∷ 100 ∷ 32 ∷ []
 
 abbrev pub word_at : List ℕ
 word_at = 32 ∷ 97 ∷ 116 ∷ 32 ∷ []
 
-abbrev pub wordBit : List ℕ
-wordBit = 32 ∷ 98 ∷ 105 ∷ 116 ∷ 32 ∷ []
+abbrev pub word_bit : List ℕ
+word_bit = 32 ∷ 98 ∷ 105 ∷ 116 ∷ 32 ∷ []
 
 -- ---- lines
 
@@ -91,27 +91,27 @@ values k (v ∷ vs) = 32 ∷ hex k v ++ values k vs
 
 -- `D 7 00000000 ..`, in the BF16 mode `D 7 0000 ..`, and `G 0 3 00000009`
 unfoldable pub text_of : Line → List ℕ
-text_of (row w r vs) = wordRow ++ decimal r ++ values (digitsOf w) vs ++ 10 ∷ []
-text_of (value t r v) = wordRegister ++ decimal t ++ 32 ∷ decimal r ++ values 8 (v ∷ []) ++ 10 ∷ []
+text_of (row w r vs) = word_row ++ decimal r ++ values (digits_of w) vs ++ 10 ∷ []
+text_of (value t r v) = word_register ++ decimal t ++ 32 ∷ decimal r ++ values 8 (v ∷ []) ++ 10 ∷ []
 
 -- the line that stands at a place, over Dst and the registers
 unfoldable pub line_of : What → List ℕ → List ℕ → Line
-line_of (what.Row w r) dst registers = row w r (columns w dst r 0 columnCount)
+line_of (what.Row w r) dst registers = row w r (columns w dst r 0 column_count)
 line_of (what.Register t r) dst registers = value t r (get_or registers (register t r) 0)
 
 -- ---- answers
 
-unfoldable pub finishedText : ℕ → List ℕ
-finishedText n = wordFinished ++ decimal n ++ 10 ∷ []
+unfoldable pub finished_text : ℕ → List ℕ
+finished_text n = word_finished ++ decimal n ++ 10 ∷ []
 
 -- ` bit 16`, or nothing
-unfoldable pub bitText : Option ℕ → List ℕ
-bitText none = []
-bitText (some i) = wordBit ++ decimal i
+unfoldable pub bit_text : Option ℕ → List ℕ
+bit_text none = []
+bit_text (some i) = word_bit ++ decimal i
 
 -- `refused 8 at 180`; with a bit `refused 3 at 172 bit 16`
-unfoldable pub refusedText : ℕ → ℕ → Option ℕ → List ℕ
-refusedText n p i = wordRefused ++ decimal n ++ word_at ++ decimal p ++ bitText i ++ 10 ∷ []
+unfoldable pub refused_text : ℕ → ℕ → Option ℕ → List ℕ
+refused_text n p i = word_refused ++ decimal n ++ word_at ++ decimal p ++ bit_text i ++ 10 ∷ []
 
-unfoldable pub passedText : ℕ → List ℕ
-passedText n = wordPassed ++ decimal n ++ 10 ∷ []
+unfoldable pub passed_text : ℕ → List ℕ
+passed_text n = word_passed ++ decimal n ++ 10 ∷ []

@@ -1,7 +1,7 @@
 // The texts of a line and of an answer.
 ghost use Rattle.std.specs.Prelude.{◌≡◌};
-ghost use Rattle.word.specs.Refusal.{number_of, bit_of, bitBy};
-ghost use Rattle.lines.specs.Text.{emptyText, wrote, made, Holds, text_of, line_of, finishedText, bitText, refusedText, passedText};
+ghost use Rattle.word.specs.Refusal.{number_of, bit_of, bit_by};
+ghost use Rattle.lines.specs.Text.{empty_text, wrote, made, Holds, text_of, line_of, finished_text, bit_text, refused_text, passed_text};
 
 use crate::Text;
 use crate::found::What;
@@ -10,7 +10,7 @@ use cells::Width;
 use word::Refusal;
 
 pub(crate) fn empty() -> Text
-    ensures { result ≡ emptyText }
+    ensures { result ≡ empty_text }
 {
     Text {
         bytes: [0; 160],
@@ -39,15 +39,15 @@ pub(crate) fn line_text(what: What, dst: &[u32], registers: &[u32]) -> Text
 }
 
 pub(crate) fn finished_text(count: usize) -> Text
-    ensures whole { result ≡ made (finishedText count) }
-    ensures first { Holds result (finishedText count) }
+    ensures whole { result ≡ made (finished_text count) }
+    ensures first { Holds result (finished_text count) }
 {
     push(push_decimal(push_word(empty(), b"finished "), count), 10)
 }
 
 // ` bit 16` of a refusal 3; of any other number nothing.
 fn push_bit(t: Text, number: u8, bit: u8) -> Text
-    ensures { result ≡ wrote t (bitText (bitBy number bit)) }
+    ensures { result ≡ wrote t (bit_text (bit_by number bit)) }
 {
     if number == 3 {
         return push_decimal(push_word(t, b" bit "), bit as usize);
@@ -57,8 +57,8 @@ fn push_bit(t: Text, number: u8, bit: u8) -> Text
 
 // `refused 8 at 180`, or `refused 3 at 172 bit 16`.
 pub(crate) fn refused_text(refusal: Refusal, place: usize) -> Text
-    ensures whole { result ≡ made (refusedText (number_of refusal) place (bit_of refusal)) }
-    ensures first { Holds result (refusedText (number_of refusal) place (bit_of refusal)) }
+    ensures whole { result ≡ made (refused_text (number_of refusal) place (bit_of refusal)) }
+    ensures first { Holds result (refused_text (number_of refusal) place (bit_of refusal)) }
 {
     let number = word::number(refusal);
     let bit = word::bit(refusal);
@@ -68,8 +68,8 @@ pub(crate) fn refused_text(refusal: Refusal, place: usize) -> Text
 }
 
 pub(crate) fn passed_text(count: usize) -> Text
-    ensures whole { result ≡ made (passedText count) }
-    ensures first { Holds result (passedText count) }
+    ensures whole { result ≡ made (passed_text count) }
+    ensures first { Holds result (passed_text count) }
 {
     push(push_decimal(push_word(empty(), b"passed "), count), 10)
 }

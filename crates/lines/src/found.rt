@@ -1,7 +1,7 @@
 // Which line comes next.
 ghost use Rattle.std.specs.Prelude.{◌≡◌, ℕ, ◌+◌, ◌<◌};
 ghost use Rattle.job.specs.Range.{OutputIn};
-ghost use Rattle.lines.specs.Cursor.{lineCount, whatAt, nextLine};
+ghost use Rattle.lines.specs.Cursor.{line_count, what_at, next_line};
 
 use crate::Cursor;
 use cells::Width;
@@ -21,7 +21,7 @@ pub(crate) enum Found {
 }
 
 fn line_count(output: Output) -> u32
-    ensures { result ≡ lineCount output }
+    ensures { result ≡ line_count output }
 {
     match output {
         Output::Rows { width: _, rows } => rows.count,
@@ -33,8 +33,8 @@ fn line_count(output: Output) -> u32
 }
 
 fn what_at(output: Output, line: u32) -> What
-    requires { OutputIn output × (line < lineCount output) }
-    ensures { result ≡ whatAt output line }
+    requires { OutputIn output × (line < line_count output) }
+    ensures { result ≡ what_at output line }
 {
     match output {
         Output::Rows { width, rows } => What::Row {
@@ -47,7 +47,7 @@ fn what_at(output: Output, line: u32) -> What
 
 // The next line of the outputs, and the cursor after it.
 pub(crate) fn next_line(job: &[u8], from: Cursor) -> Found
-    ensures { result ≡ nextLine job.now from }
+    ensures { result ≡ next_line job.now from }
 {
     let n = job.len();
     let mut at = from.at;

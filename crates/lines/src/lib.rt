@@ -7,8 +7,8 @@ ghost use Rattle.std.specs.Prelude.{◌≡◌, true, false, List, ℕ};
 ghost use Rattle.cells.specs.State.{state};
 ghost use Rattle.run.specs.declared.Outcome.TheVariants as Outcome;
 ghost use Rattle.lines.specs.Text.{made, Holds};
-ghost use Rattle.lines.specs.Printed.{checkedText};
-ghost use Rattle.lines.specs.Cursor.{startCursor, answeredCursor, nextLine, nextEnd, lineNext, next_of, Gives};
+ghost use Rattle.lines.specs.Printed.{checked_text};
+ghost use Rattle.lines.specs.Cursor.{start_cursor, answered_cursor, next_line, next_end, line_next, next_of, Gives};
 
 use compose::{empty, finished_text, line_text, passed_text, refused_text};
 use found::{Found, next_line};
@@ -39,7 +39,7 @@ pub struct Next {
 }
 
 pub fn start() -> Cursor
-    ensures { result ≡ startCursor }
+    ensures { result ≡ start_cursor }
 {
     Cursor {
         answered: false,
@@ -71,8 +71,8 @@ pub fn next_text(job: &[u8], outcome: Outcome, from: Cursor, dst: &[u32], regist
 
 // `passed 1`, or the refusal: all that a pre-check prints.
 pub fn checked_text(checked: Checked) -> Text
-    ensures whole { result ≡ made (checkedText checked) }
-    ensures first { Holds result (checkedText checked) }
+    ensures whole { result ≡ made (checked_text checked) }
+    ensures first { Holds result (checked_text checked) }
 {
     match checked {
         Checked::Passed(count) => passed_text(count),
@@ -82,7 +82,7 @@ pub fn checked_text(checked: Checked) -> Text
 
 // The answer's text; the lines come after it.
 fn answer(text: Text) -> Next
-    ensures { result ≡ record { end = false; text = text; after = answeredCursor } }
+    ensures { result ≡ record { end = false; text = text; after = answered_cursor } }
 {
     let after = Cursor {
         answered: true,
@@ -97,7 +97,7 @@ fn answer(text: Text) -> Next
 }
 
 fn end(from: Cursor) -> Next
-    ensures { result ≡ nextEnd from }
+    ensures { result ≡ next_end from }
 {
     Next {
         end: true,
@@ -107,7 +107,7 @@ fn end(from: Cursor) -> Next
 }
 
 fn line_after(job: &[u8], from: Cursor, dst: &[u32], registers: &[u32]) -> Next
-    ensures whole { result ≡ lineNext from (nextLine job.now from) dst.now registers.now }
+    ensures whole { result ≡ line_next from (next_line job.now from) dst.now registers.now }
     ensures given { from.answered ≡ true → (n : ℕ) (a b : List ℕ)
         → Gives job.now (Outcome.Finished n) (state a b dst.now registers.now) from result }
 {

@@ -1,9 +1,9 @@
 // Bytes, words and numbers put at a text's end. Nothing is put where the text is full.
 ghost use Rattle.std.specs.Prelude.{◌≡◌, ◌∷◌, [], ℕ, ◌+◌, ◌%◌};
-ghost use Rattle.cells.specs.Layout.{columnCount};
-ghost use Rattle.cells.specs.Places.{digitsOf};
+ghost use Rattle.cells.specs.Layout.{column_count};
+ghost use Rattle.cells.specs.Places.{digits_of};
 ghost use Rattle.lines.specs.Lines.{columns};
-ghost use Rattle.lines.specs.Text.{pushed, wrote, decimal, hexDigit, hex, values};
+ghost use Rattle.lines.specs.Text.{pushed, wrote, decimal, hex_digit, hex, values};
 
 use crate::Text;
 use cells::{COLUMNS, Width};
@@ -44,7 +44,7 @@ pub(crate) fn push_decimal(t: Text, n: usize) -> Text
 }
 
 fn hex_digit(v: u32) -> u8
-    ensures { result ≡ hexDigit (v % 16) }
+    ensures { result ≡ hex_digit (v % 16) }
 {
     let d = (v % 16) as u8;
     if d < 10 {
@@ -72,7 +72,7 @@ pub(crate) fn push_value(t: Text, digits: u32, v: u32) -> Text
 
 // The sixteen values of a row: eight digits each, four in the BF16 mode.
 pub(crate) fn push_row(t: Text, width: Width, dst: &[u32], row: u32) -> Text
-    ensures { result ≡ wrote t (values (digitsOf width) (columns width dst.now row 0 columnCount)) }
+    ensures { result ≡ wrote t (values (digits_of width) (columns width dst.now row 0 column_count)) }
 {
     let digits = cells::digits(width);
     let first = row as usize * COLUMNS;

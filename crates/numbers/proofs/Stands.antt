@@ -9,55 +9,55 @@ use lib.ListN.{length}
 use borrow.Author.Tests.{eqb-true, eq-eqb}
 use Rattle.cells.proofs.Cells.{split, both}
 use Rattle.control.specs.Record.{start}
-use Rattle.control.specs.Range.{slotsOk, threadsOk, in_range}
+use Rattle.control.specs.Range.{slots_ok, threads_ok, in_range}
 use Rattle.control.specs.declared.Control.{Control}
-use Rattle.numbers.specs.Places.{banksA, banksB, lastRow, sharedLength, threadLength, recordLength}
-use Rattle.numbers.specs.Lists.{sharedNumbers, threadNumber, number_at, sameFrom}
-use Rattle.numbers.specs.Record.{byte, settingsFrom, banksFrom, threadFrom, controlFrom, numberFrom, read_of, numbersOf, stands, noRecord, recordOf}
-use Rattle.numbers.proofs.Parts.{shared_at, thread-from, same-part, same_first, same-all}
+use Rattle.numbers.specs.Places.{banks_a, banks_b, last_row, shared_length, thread_length, record_length}
+use Rattle.numbers.specs.Lists.{shared_numbers, thread_number, number_at, same_from}
+use Rattle.numbers.specs.Record.{byte, settings_from, banks_from, thread_from, control_from, number_from, read_of, numbers_of, stands, no_record, record_of}
+use Rattle.numbers.proofs.Parts.{shared_at, thread_from_lem, same_part, same_first, same_all}
 
 module _ (l : List ℕ) where
   -- thread t has the numbers that it was read from
-  abbrev pub sameThread : ℕ → Bool
-  sameThread t =
-      let b = sharedLength + threadLength * t in
-      sameFrom b threadLength (threadNumber (threadFrom (numberFrom l) b)) (numberFrom l)
+  abbrev pub same_thread : ℕ → Bool
+  same_thread t =
+      let b = shared_length + thread_length * t in
+      same_from b thread_length (thread_number (thread_from (number_from l) b)) (number_from l)
 
   -- part by part
-  pub all-parts : {shared x y z : Bool} {xs : List ℕ}
-      → xs ≡ sharedNumbers (settingsFrom (numberFrom l)) (banksFrom (numberFrom l) banksA) (banksFrom (numberFrom l) banksB) (byte (numberFrom l lastRow))
-      → shared ≡ sameFrom 0 (length xs) (numberFrom xs) (numberFrom l)
-      → x ≡ sameThread 0 → y ≡ sameThread 1 → z ≡ sameThread 2 → ((shared && x) && y) && z ≡ numbersOf l (read_of l)
-  unfolding controlFrom
-  all-parts r e x y z =
+  pub all_parts : {shared x y z : Bool} {xs : List ℕ}
+      → xs ≡ shared_numbers (settings_from (number_from l)) (banks_from (number_from l) banks_a) (banks_from (number_from l) banks_b) (byte (number_from l last_row))
+      → shared ≡ same_from 0 (length xs) (number_from xs) (number_from l)
+      → x ≡ same_thread 0 → y ≡ same_thread 1 → z ≡ same_thread 2 → ((shared && x) && y) && z ≡ numbers_of l (read_of l)
+  unfolding control_from
+  all_parts r e x y z =
       let c = read_of l in
-      let s = same_first {n = numberFrom l} 0 (number_at c) r e (shared_at c) in
-      let s₀ = same-part {next = sharedLength + threadLength} sharedLength threadLength _ s x refl (λ i h. thread-from c 0 i _ h (omega arith)) refl in
-      let s₁ = same-part {next = sharedLength + threadLength * 2} (sharedLength + threadLength) threadLength _ s₀ y refl (λ i h. thread-from c 1 i _ h (omega arith)) refl in
-      let s₂ = same-part {next = recordLength} (sharedLength + threadLength * 2) threadLength _ s₁ z refl (λ i h. thread-from c 2 i _ h (omega arith)) refl in
-      s₂.so_far ∙ same-all l c
+      let s = same_first {n = number_from l} 0 (number_at c) r e (shared_at c) in
+      let s₀ = same_part {next = shared_length + thread_length} shared_length thread_length _ s x refl (λ i h. thread_from_lem c 0 i _ h (omega arith)) refl in
+      let s₁ = same_part {next = shared_length + thread_length * 2} (shared_length + thread_length) thread_length _ s₀ y refl (λ i h. thread_from_lem c 1 i _ h (omega arith)) refl in
+      let s₂ = same_part {next = record_length} (shared_length + thread_length * 2) thread_length _ s₁ z refl (λ i h. thread_from_lem c 2 i _ h (omega arith)) refl in
+      s₂.so_far ∙ same_all l c
 
   -- what is read then
-  pub reads_as : {c : Control} → length l ≡ recordLength → c ≡ read_of l → numbersOf l (read_of l) ≡ true → c ≡ recordOf l
-  unfolding stands recordOf
+  pub reads_as : {c : Control} → length l ≡ record_length → c ≡ read_of l → numbers_of l (read_of l) ≡ true → c ≡ record_of l
+  unfolding stands record_of
   reads_as long is h = is ∙ simp (eq-eqb _ _ long, h)
 
-  pub reads_none : length l ≡ recordLength → numbersOf l (read_of l) ≡ false → noRecord ≡ recordOf l
-  unfolding stands recordOf
+  pub reads_none : length l ≡ record_length → numbers_of l (read_of l) ≡ false → no_record ≡ record_of l
+  unfolding stands record_of
   reads_none long h = simp (eq-eqb _ _ long, h)
 
 -- a list that stands for no record is refused
-none-refused : in_range noRecord ≡ false
-unfolding in_range start threadsOk slotsOk
-none-refused = refl
+none_refused : in_range no_record ≡ false
+unfolding in_range start threads_ok slots_ok
+none_refused = refl
 
-pub in-range-stands : (l : List ℕ) → in_range (recordOf l) ≡ true → stands l ≡ true
-unfolding recordOf
-in-range-stands l h = split (stands l) (λ e. e) (λ e. absurd (false≢true (sym none-refused ∙ (rw e at h))))
+pub in_range_stands : (l : List ℕ) → in_range (record_of l) ≡ true → stands l ≡ true
+unfolding record_of
+in_range_stands l h = split (stands l) (λ e. e) (λ e. absurd (false≢true (sym none_refused ∙ (rw e at h))))
 
-pub stands-long : (l : List ℕ) → stands l ≡ true → length l ≡ recordLength
+pub stands_long : (l : List ℕ) → stands l ≡ true → length l ≡ record_length
 unfolding stands
-stands-long l h = eqb-true _ _ (both (eqb (length l) recordLength) (numbersOf l (read_of l)) h).0
+stands_long l h = eqb-true _ _ (both (eqb (length l) record_length) (numbers_of l (read_of l)) h).0
 
-pub in-range-long : (l : List ℕ) → in_range (recordOf l) ≡ true → length l ≡ recordLength
-in-range-long l h = stands-long l (in-range-stands l h)
+pub in_range_long : (l : List ℕ) → in_range (record_of l) ≡ true → length l ≡ record_length
+in_range_long l h = stands_long l (in_range_stands l h)

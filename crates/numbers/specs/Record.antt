@@ -1,15 +1,15 @@
 -- The record that numbers stand for. Definitions only.
 use Rattle.std.specs.Prelude.{Bool, cond, ◌&&◌, List, ℕ, ◌+◌, ◌*◌, ◌%◌, eqb, length, get_or}
-use Rattle.cells.specs.Layout.{threadCount}
+use Rattle.cells.specs.Layout.{thread_count}
 use Rattle.cells.specs.Cells.{tabulate}
 use Rattle.cells.specs.Tests.{below}
-use Rattle.control.specs.Record.{slotCount, start, with_last}
+use Rattle.control.specs.Record.{slot_count, start, with_last}
 use Rattle.control.specs.declared.Slot.{Slot}
 use Rattle.control.specs.declared.Thread.{Thread}
 use Rattle.control.specs.declared.Settings.{Settings}
 use Rattle.control.specs.declared.Banks.{Banks}
 use Rattle.control.specs.declared.Control.{Control}
-use Rattle.numbers.specs.Places.{ownLength, slotLength, sharedLength, threadLength, recordLength, banksA, banksB, lastRow}
+use Rattle.numbers.specs.Places.{own_length, slot_length, shared_length, thread_length, record_length, banks_a, banks_b, last_row}
 use Rattle.numbers.specs.Lists.{number_at}
 
 -- numbers of 8 and of 16 bits, and a flag; `stands`, below, finds what does not fit
@@ -24,8 +24,8 @@ on x = eqb x 1
 
 -- ---- the parts, from place b on; n gives the number at a place
 
-abbrev pub settingsFrom : (ℕ → ℕ) → Settings
-settingsFrom n =
+abbrev pub settings_from : (ℕ → ℕ) → Settings
+settings_from n =
     record {
       format = byte (n 0);
       fp32 = on (n 1);
@@ -35,11 +35,11 @@ settingsFrom n =
       keep = record { a = on (n 5); b = on (n 6) };
     }
 
-abbrev pub banksFrom : (ℕ → ℕ) → ℕ → Banks
-banksFrom n b = record { matrix = byte (n b); unpack = byte (n (b + 1)); owned0 = on (n (b + 2)); owned1 = on (n (b + 3)) }
+abbrev pub banks_from : (ℕ → ℕ) → ℕ → Banks
+banks_from n b = record { matrix = byte (n b); unpack = byte (n (b + 1)); owned0 = on (n (b + 2)); owned1 = on (n (b + 3)) }
 
-abbrev pub slotFrom : (ℕ → ℕ) → ℕ → Slot
-slotFrom n b =
+abbrev pub slot_from : (ℕ → ℕ) → ℕ → Slot
+slot_from n b =
     record {
       a = record { step = record { 0 = byte (n b) }; clear = on (n (b + 1)); carry = on (n (b + 2)) };
       b = record { step = record { 0 = byte (n (b + 3)) }; clear = on (n (b + 4)); carry = on (n (b + 5)) };
@@ -47,12 +47,12 @@ slotFrom n b =
       phase = record { step = byte (n (b + 10)); clear = on (n (b + 11)) };
     }
 
-unfoldable pub slotsFrom : (ℕ → ℕ) → ℕ → List Slot
-slotsFrom n b = tabulate slotCount (λ (s : ℕ). slotFrom n (b + slotLength * s))
+unfoldable pub slots_from : (ℕ → ℕ) → ℕ → List Slot
+slots_from n b = tabulate slot_count (λ (s : ℕ). slot_from n (b + slot_length * s))
 
 -- a thread's own numbers, with its slots
-abbrev pub ownFrom : (ℕ → ℕ) → ℕ → List Slot → Thread
-ownFrom n b slots =
+abbrev pub own_from : (ℕ → ℕ) → ℕ → List Slot → Thread
+own_from n b slots =
     record {
       dst = record { at = record { 0 = half (n b) }; carry = record { 0 = half (n (b + 1)) } };
       a = record { at = record { 0 = byte (n (b + 2)) }; carry = record { 0 = byte (n (b + 3)) } };
@@ -64,37 +64,37 @@ ownFrom n b slots =
       slots = slots;
     }
 
-unfoldable pub threadFrom : (ℕ → ℕ) → ℕ → Thread
-threadFrom n b = ownFrom n b (slotsFrom n (b + ownLength))
+unfoldable pub thread_from : (ℕ → ℕ) → ℕ → Thread
+thread_from n b = own_from n b (slots_from n (b + own_length))
 
-unfoldable pub controlFrom : (ℕ → ℕ) → Control
-controlFrom n =
+unfoldable pub control_from : (ℕ → ℕ) → Control
+control_from n =
     record {
-      settings = settingsFrom n;
-      threads = tabulate threadCount (λ (t : ℕ). threadFrom n (sharedLength + threadLength * t));
-      a = banksFrom n banksA;
-      b = banksFrom n banksB;
-      last = byte (n lastRow);
+      settings = settings_from n;
+      threads = tabulate thread_count (λ (t : ℕ). thread_from n (shared_length + thread_length * t));
+      a = banks_from n banks_a;
+      b = banks_from n banks_b;
+      last = byte (n last_row);
     }
 
 -- ---- the record
 
-abbrev pub numberFrom : List ℕ → ℕ → ℕ
-numberFrom l p = get_or l p 0
+abbrev pub number_from : List ℕ → ℕ → ℕ
+number_from l p = get_or l p 0
 
 abbrev pub read_of : List ℕ → Control
-read_of l = controlFrom (numberFrom l)
+read_of l = control_from (number_from l)
 
 -- a list stands for a record when it is the list of the record's numbers
-unfoldable pub numbersOf : List ℕ → Control → Bool
-numbersOf l c = below (λ (p : ℕ). eqb (numberFrom l p) (number_at c p)) recordLength
+unfoldable pub numbers_of : List ℕ → Control → Bool
+numbers_of l c = below (λ (p : ℕ). eqb (number_from l p) (number_at c p)) record_length
 
 unfoldable pub stands : List ℕ → Bool
-stands l = eqb (length l) recordLength && numbersOf l (read_of l)
+stands l = eqb (length l) record_length && numbers_of l (read_of l)
 
 -- for another length, a flag above 1 or a number too large for its place: a record out of range, which a step refuses with 1
-abbrev pub noRecord : Control
-noRecord = with_last start 1
+abbrev pub no_record : Control
+no_record = with_last start 1
 
-unfoldable pub recordOf : List ℕ → Control
-recordOf l = cond (stands l) (read_of l) noRecord
+unfoldable pub record_of : List ℕ → Control
+record_of l = cond (stands l) (read_of l) no_record

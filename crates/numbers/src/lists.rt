@@ -1,14 +1,14 @@
 // The numbers of a record, part by part, and those that an instruction can change written.
 ghost use Rattle.std.specs.Prelude.{◌≡◌, ◌+◌, ◌≤◌, length};
-ghost use Rattle.numbers.specs.Lists.{sharedNumbers, ownNumbers, slotNumbers, butSlotsOver, overFrom};
-ghost use Rattle.numbers.specs.Record.{numberFrom};
+ghost use Rattle.numbers.specs.Lists.{shared_numbers, own_numbers, slot_numbers, but_slots_over, over_from};
+ghost use Rattle.numbers.specs.Record.{number_from};
 
 use crate::places::{OWN, RECORD, SHARED, SLOT, THREAD_0, THREAD_1, THREAD_2};
 use control::{Banks, Control, Settings, Slot, Thread};
 
 // What the threads share.
 pub(crate) fn shared_numbers(s: Settings, a: Banks, b: Banks, last: u8) -> [u32; SHARED]
-    ensures { result ≡ sharedNumbers s a b last }
+    ensures { result ≡ shared_numbers s a b last }
 {
     [
         s.format as u32,
@@ -32,7 +32,7 @@ pub(crate) fn shared_numbers(s: Settings, a: Banks, b: Banks, last: u8) -> [u32;
 
 // A thread's own. The last fields come first: their bounds are found only where few facts stand before them.
 pub(crate) fn own_numbers(x: Thread) -> [u32; OWN]
-    ensures { result ≡ ownNumbers x }
+    ensures { result ≡ own_numbers x }
 {
     let fidelity = x.fidelity as u32;
     [
@@ -50,7 +50,7 @@ pub(crate) fn own_numbers(x: Thread) -> [u32; OWN]
 }
 
 pub(crate) fn slot_numbers(s: Slot) -> [u32; SLOT]
-    ensures { result ≡ slotNumbers s }
+    ensures { result ≡ slot_numbers s }
 {
     [
         s.a.step.0 as u32,
@@ -73,7 +73,7 @@ pub(crate) fn slot_numbers(s: Slot) -> [u32; SLOT]
 // A part's numbers from place `b` on.
 fn put(n: &mut [u32], b: usize, part: &[u32])
     requires { b + length part.now ≤ length n.old }
-    ensures { n.new ≡ overFrom b (length part.now) (numberFrom part.now) n.old }
+    ensures { n.new ≡ over_from b (length part.now) (number_from part.now) n.old }
 {
     for i in 0..part.len() {
         n[b + i] = part[i];
@@ -82,7 +82,7 @@ fn put(n: &mut [u32], b: usize, part: &[u32])
 
 // The numbers of a record but for its slots' over those of `n`; a slice of another length stays as it was.
 pub fn write_but_slots(c: Control, n: &mut [u32])
-    ensures { n.new ≡ butSlotsOver c n.old }
+    ensures { n.new ≡ but_slots_over c n.old }
 {
     if n.len() != RECORD {
         return;

@@ -1,8 +1,8 @@
 // The record that numbers stand for, part by part from place `b` on.
 ghost use Rattle.std.specs.Prelude.{◌≡◌, ◌+◌, ◌≤◌, length};
-ghost use Rattle.numbers.specs.Places.{settingsLength, banksLength, ownLength, slotLength, threadLength};
-ghost use Rattle.numbers.specs.Lists.{threadNumber, sameFrom};
-ghost use Rattle.numbers.specs.Record.{settingsFrom, banksFrom, slotFrom, ownFrom, threadFrom, numberFrom, noRecord, recordOf};
+ghost use Rattle.numbers.specs.Places.{settings_length, banks_length, own_length, slot_length, thread_length};
+ghost use Rattle.numbers.specs.Lists.{thread_number, same_from};
+ghost use Rattle.numbers.specs.Record.{settings_from, banks_from, slot_from, own_from, thread_from, number_from, no_record, record_of};
 
 use crate::lists::{own_numbers, shared_numbers, slot_numbers};
 use crate::places::{BANKS_A, BANKS_B, LAST_ROW, OWN, RECORD, SLOT, THREAD_0, THREAD_1, THREAD_2};
@@ -12,8 +12,8 @@ use control::{
 };
 
 fn read_settings(n: &[u32]) -> Settings
-    requires { settingsLength ≤ length n.now }
-    ensures { result ≡ settingsFrom (numberFrom n.now) }
+    requires { settings_length ≤ length n.now }
+    ensures { result ≡ settings_from (number_from n.now) }
 {
     Settings {
         format: (n[0] % 256) as u8,
@@ -29,8 +29,8 @@ fn read_settings(n: &[u32]) -> Settings
 }
 
 fn read_banks(n: &[u32], b: usize) -> Banks
-    requires { b + banksLength ≤ length n.now }
-    ensures { result ≡ banksFrom (numberFrom n.now) b }
+    requires { b + banks_length ≤ length n.now }
+    ensures { result ≡ banks_from (number_from n.now) b }
 {
     Banks {
         matrix: (n[b] % 256) as u8,
@@ -41,8 +41,8 @@ fn read_banks(n: &[u32], b: usize) -> Banks
 }
 
 fn read_slot(n: &[u32], b: usize) -> Slot
-    requires { b + slotLength ≤ length n.now }
-    ensures { result ≡ slotFrom (numberFrom n.now) b }
+    requires { b + slot_length ≤ length n.now }
+    ensures { result ≡ slot_from (number_from n.now) b }
 {
     Slot {
         a: SrcStep {
@@ -70,8 +70,8 @@ fn read_slot(n: &[u32], b: usize) -> Slot
 
 // A thread's own numbers, with its slots.
 fn read_own(n: &[u32], b: usize, slots: [Slot; SLOTS]) -> Thread
-    requires { b + ownLength ≤ length n.now }
-    ensures { result ≡ ownFrom (numberFrom n.now) b slots }
+    requires { b + own_length ≤ length n.now }
+    ensures { result ≡ own_from (number_from n.now) b slots }
 {
     Thread {
         dst: Dst {
@@ -99,7 +99,7 @@ fn read_own(n: &[u32], b: usize, slots: [Slot; SLOTS]) -> Thread
 // Whether a part's numbers stand from place `b` on.
 fn stand(n: &[u32], b: usize, part: &[u32]) -> bool
     requires { b + length part.now ≤ length n.now }
-    ensures { result ≡ sameFrom b (length part.now) (numberFrom part.now) (numberFrom n.now) }
+    ensures { result ≡ same_from b (length part.now) (number_from part.now) (number_from n.now) }
 {
     let mut same = true;
     for i in 0..part.len() {
@@ -117,9 +117,9 @@ struct Found {
 
 // Each slot is compared as it is read: the test is then on the numbers alone, and nothing is looked up in the record.
 fn read_thread(n: &[u32], b: usize) -> Found
-    requires { b + threadLength ≤ length n.now }
-    ensures { (result.thread ≡ threadFrom (numberFrom n.now) b)
-        × (result.same ≡ sameFrom b threadLength (threadNumber (threadFrom (numberFrom n.now) b)) (numberFrom n.now)) }
+    requires { b + thread_length ≤ length n.now }
+    ensures { (result.thread ≡ thread_from (number_from n.now) b)
+        × (result.same ≡ same_from b thread_length (thread_number (thread_from (number_from n.now) b)) (number_from n.now)) }
 {
     let mut slots = [control::zero_slot(); SLOTS];
     let mut same = true;
@@ -139,7 +139,7 @@ fn read_thread(n: &[u32], b: usize) -> Found
 
 // A record out of range.
 fn no_record() -> Control
-    ensures { result ≡ noRecord }
+    ensures { result ≡ no_record }
 {
     let mut c = control::start_record();
     c.last = 1;
@@ -148,7 +148,7 @@ fn no_record() -> Control
 
 // The record that the numbers stand for, else one out of range.
 pub fn read(n: &[u32]) -> Control
-    ensures { result ≡ recordOf n.now }
+    ensures { result ≡ record_of n.now }
 {
     if n.len() != RECORD {
         return no_record();

@@ -2,11 +2,11 @@
 -- marks and on no lent number. Definitions only.
 use Rattle.std.specs.Prelude.{Bool, not, List, [], ◌∷◌, ◌++◌, ℕ}
 use Rattle.cells.specs.declared.layout.File.{File}
-use Rattle.cells.specs.Layout.{oneRegister}
-use Rattle.word.specs.Word.{wordOperands}
+use Rattle.cells.specs.Layout.{one_register}
+use Rattle.word.specs.Word.{word_operands}
 use Rattle.word.specs.declared.Refusal.TheVariants.{BankOwner, UnsetRead}
 use Rattle.control.specs.declared.Control.{Control}
-use Rattle.control.specs.Record.{matrixOwnsNext}
+use Rattle.control.specs.Record.{matrix_owns_next}
 use Rattle.rules.specs.Rules.{Judged, ◌when◌, rules}
 use Rattle.rules.specs.Access.{reads_of}
 use Rattle.job.specs.declared.Write.{Write}
@@ -15,33 +15,33 @@ use Rattle.job.specs.declared.Output.{Output}
 use Rattle.job.specs.declared.Output.TheVariants.{Rows, Register}
 use Rattle.job.specs.declared.Kind.{Kind}
 use Rattle.job.specs.declared.Kind.TheVariants as kind
-use Rattle.walk.specs.FieldRecord.{banksOf}
-use Rattle.precheck.specs.Marks.{Marks, allSet, readsSet}
+use Rattle.walk.specs.FieldRecord.{banks_of}
+use Rattle.precheck.specs.Marks.{Marks, all_set, reads_set}
 
 -- 6 for a Src load and a hand over: the unpackers' bank must be the unpackers'
-abbrev pub unpackersBank : Control → File → List Judged
-unpackersBank c file = (BankOwner when matrixOwnsNext (banksOf c file)) ∷ []
+abbrev pub unpackers_bank : Control → File → List Judged
+unpackers_bank c file = (BankOwner when matrix_owns_next (banks_of c file)) ∷ []
 
-abbrev pub writeRules : Control → Write → List Judged
-writeRules c (LoadSrc file rows) = unpackersBank c file
-writeRules c (LoadDst w rows) = []
-writeRules c (LoadRegister t r) = []
-writeRules c (ZeroRows w rows) = []
+abbrev pub write_rules : Control → Write → List Judged
+write_rules c (LoadSrc file rows) = unpackers_bank c file
+write_rules c (LoadDst w rows) = []
+write_rules c (LoadRegister t r) = []
+write_rules c (ZeroRows w rows) = []
 
 -- 8 for an output: it reads its rows or its register
-abbrev pub outputRules : Marks → Output → List Judged
-outputRules m (Rows w rows) = (UnsetRead when not (allSet m.dst rows)) ∷ []
-outputRules m (Register t r) = (UnsetRead when not (allSet m.registers (oneRegister t r))) ∷ []
+abbrev pub output_rules : Marks → Output → List Judged
+output_rules m (Rows w rows) = (UnsetRead when not (all_set m.dst rows)) ∷ []
+output_rules m (Register t r) = (UnsetRead when not (all_set m.registers (one_register t r))) ∷ []
 
 -- 8 for an instruction: an unset row or register is read; judged by the operands of the word, whether or not an unnamed bit is 1
-abbrev pub unsetRead : Control → Marks → ℕ → ℕ → Bool
-unsetRead c m t w = not (readsSet m (reads_of c t (wordOperands w)))
+abbrev pub unset_read : Control → Marks → ℕ → ℕ → Bool
+unset_read c m t w = not (reads_set m (reads_of c t (word_operands w)))
 
 -- the rules that a field may break, in the order in which they are judged
-unfoldable pub fieldRules : Control → Marks → Kind → List Judged
-fieldRules c m kind.Settings = []
-fieldRules c m (kind.Issue t w) = rules c t w ++ ((UnsetRead when unsetRead c m t w) ∷ [])
-fieldRules c m (kind.HandOver file) = unpackersBank c file
-fieldRules c m (kind.Writes x) = writeRules c x
-fieldRules c m (kind.Prints o) = outputRules m o
-fieldRules c m (kind.Wrong x) = []
+unfoldable pub field_rules : Control → Marks → Kind → List Judged
+field_rules c m kind.Settings = []
+field_rules c m (kind.Issue t w) = rules c t w ++ ((UnsetRead when unset_read c m t w) ∷ [])
+field_rules c m (kind.HandOver file) = unpackers_bank c file
+field_rules c m (kind.Writes x) = write_rules c x
+field_rules c m (kind.Prints o) = output_rules m o
+field_rules c m (kind.Wrong x) = []

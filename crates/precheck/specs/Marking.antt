@@ -1,25 +1,25 @@
 -- Document 01, "Set and unset": the marks after a field: loads and zeroing set, an instruction sets and its clear unsets. Definitions only.
 use Rattle.std.specs.Prelude.{ℕ}
-use Rattle.cells.specs.Layout.{oneRegister}
+use Rattle.cells.specs.Layout.{one_register}
 use Rattle.control.specs.declared.Control.{Control}
-use Rattle.rules.specs.Access.{wordSets, wordUnsets}
+use Rattle.rules.specs.Access.{word_sets, word_unsets}
 use Rattle.job.specs.declared.Write.{Write}
 use Rattle.job.specs.declared.Write.TheVariants.{LoadSrc, LoadDst, LoadRegister, ZeroRows}
 use Rattle.job.specs.declared.Kind.{Kind}
 use Rattle.job.specs.declared.Kind.TheVariants as kind
-use Rattle.walk.specs.FieldRecord.{loadedRows}
-use Rattle.precheck.specs.Marks.{Marks, markSrc, markDst, markRegister, instructionMarks}
+use Rattle.walk.specs.FieldRecord.{loaded_rows}
+use Rattle.precheck.specs.Marks.{Marks, mark_src, mark_dst, mark_register, instruction_marks}
 
-abbrev pub writeMarks : Control → Marks → Write → Marks
-writeMarks c m (LoadSrc file rows) = markSrc m file (loadedRows c file rows)
-writeMarks c m (LoadDst w rows) = markDst m rows
-writeMarks c m (LoadRegister t r) = markRegister m (oneRegister t r)
-writeMarks c m (ZeroRows w rows) = markDst m rows
+abbrev pub write_marks : Control → Marks → Write → Marks
+write_marks c m (LoadSrc file rows) = mark_src m file (loaded_rows c file rows)
+write_marks c m (LoadDst w rows) = mark_dst m rows
+write_marks c m (LoadRegister t r) = mark_register m (one_register t r)
+write_marks c m (ZeroRows w rows) = mark_dst m rows
 
-unfoldable pub fieldMarks : Control → Marks → Kind → Marks
-fieldMarks c m kind.Settings = m
-fieldMarks c m (kind.Issue t w) = instructionMarks m (wordSets c t w) (wordUnsets c w)
-fieldMarks c m (kind.HandOver file) = m
-fieldMarks c m (kind.Writes x) = writeMarks c m x
-fieldMarks c m (kind.Prints o) = m
-fieldMarks c m (kind.Wrong x) = m
+unfoldable pub field_marks : Control → Marks → Kind → Marks
+field_marks c m kind.Settings = m
+field_marks c m (kind.Issue t w) = instruction_marks m (word_sets c t w) (word_unsets c w)
+field_marks c m (kind.HandOver file) = m
+field_marks c m (kind.Writes x) = write_marks c m x
+field_marks c m (kind.Prints o) = m
+field_marks c m (kind.Wrong x) = m

@@ -15,13 +15,13 @@ pub record Unmodelled (c : Control) (f : Operands) : Type 0 where
   pub is : f ≡ operands.Multiply multiply
   pub settings : modelled c.settings ≡ false
 
-pub multiply-alone : (c : Control) (f : Operands) → unmodelled c f ≡ true → Unmodelled c f
-multiply-alone c (operands.Multiply m) h = record { multiply = m; is = refl; settings = not-true (modelled c.settings) h }
-multiply-alone c (operands.Legacy l) h = absurd (false≢true h)
-multiply-alone c (operands.SetCounters s) h = absurd (false≢true h)
-multiply-alone c (operands.AddCounters s) h = absurd (false≢true h)
-multiply-alone c (operands.ZeroSrc z) h = absurd (false≢true h)
-multiply-alone c (operands.ShiftA mode) h = absurd (false≢true h)
-multiply-alone c (operands.ShiftB s) h = absurd (false≢true h)
-multiply-alone c operands.NoEffect h = absurd (false≢true h)
-multiply-alone c (operands.Scalar s) h = absurd (false≢true h)
+pub multiply_alone : (c : Control) (f : Operands) → unmodelled c f ≡ true → Unmodelled c f
+multiply_alone c (operands.Multiply m) h = record { multiply = m; is = refl; settings = not-true (modelled c.settings) h }
+multiply_alone c (operands.Legacy l) h = absurd (false≢true h)
+multiply_alone c (operands.SetCounters s) h = absurd (false≢true h)
+multiply_alone c (operands.AddCounters s) h = absurd (false≢true h)
+multiply_alone c (operands.ZeroSrc z) h = absurd (false≢true h)
+multiply_alone c (operands.ShiftA mode) h = absurd (false≢true h)
+multiply_alone c (operands.ShiftB s) h = absurd (false≢true h)
+multiply_alone c operands.NoEffect h = absurd (false≢true h)
+multiply_alone c (operands.Scalar s) h = absurd (false≢true h)

@@ -1,23 +1,23 @@
 -- Document 01, "What each does": every instruction once, in the paper's order. Definitions only.
-use Rattle.word.specs.Operands.{multiplyOf, legacyOf, setCountersOf, addCountersOf, zeroSrcOf, shiftAOf, shiftBOf, scalarOf}
+use Rattle.word.specs.Operands.{multiply_of, legacy_of, set_counters_of, add_counters_of, zero_src_of, shift_aOf, shift_bOf, scalar_of}
 use Rattle.word.specs.declared.Operands.{Operands}
 use Rattle.word.specs.declared.Operands.TheVariants as operands
 use Rattle.rules.specs.Vocabulary.{Meaning, quiet}
-use Rattle.rules.specs.Multiply.{multiplyMeaning}
-use Rattle.rules.specs.Legacy.{legacyMeaning}
-use Rattle.rules.specs.Counters.{setCountersMeaning, addCountersMeaning}
-use Rattle.rules.specs.ZeroSrc.{zeroSrcMeaning}
-use Rattle.rules.specs.Shifts.{shiftAMeaning, shiftBMeaning}
-use Rattle.rules.specs.Scalar.{scalarMeaning}
+use Rattle.rules.specs.Multiply.{multiply_meaning}
+use Rattle.rules.specs.Legacy.{legacy_meaning}
+use Rattle.rules.specs.Counters.{set_counters_meaning, add_counters_meaning}
+use Rattle.rules.specs.ZeroSrc.{zero_src_meaning}
+use Rattle.rules.specs.Shifts.{shift_aMeaning, shift_bMeaning}
+use Rattle.rules.specs.Scalar.{scalar_meaning}
 
 -- what an instruction means, by its class and the fields of its word; GATESRCRST, CLREXPHIST and FLUSHDMA change nothing
-abbrev pub meaningOf : Operands → Meaning
-meaningOf (operands.Multiply w) = multiplyMeaning (multiplyOf w)
-meaningOf (operands.Legacy w) = legacyMeaning (legacyOf w)
-meaningOf (operands.SetCounters w) = setCountersMeaning (setCountersOf w)
-meaningOf (operands.AddCounters w) = addCountersMeaning (addCountersOf w)
-meaningOf (operands.ZeroSrc w) = zeroSrcMeaning (zeroSrcOf w)
-meaningOf (operands.ShiftA w) = shiftAMeaning (shiftAOf w)
-meaningOf (operands.ShiftB w) = shiftBMeaning (shiftBOf w)
-meaningOf (operands.Scalar w) = scalarMeaning (scalarOf w)
-meaningOf operands.NoEffect = quiet
+abbrev pub meaning_of : Operands → Meaning
+meaning_of (operands.Multiply w) = multiply_meaning (multiply_of w)
+meaning_of (operands.Legacy w) = legacy_meaning (legacy_of w)
+meaning_of (operands.SetCounters w) = set_counters_meaning (set_counters_of w)
+meaning_of (operands.AddCounters w) = add_counters_meaning (add_counters_of w)
+meaning_of (operands.ZeroSrc w) = zero_src_meaning (zero_src_of w)
+meaning_of (operands.ShiftA w) = shift_aMeaning (shift_aOf w)
+meaning_of (operands.ShiftB w) = shift_bMeaning (shift_bOf w)
+meaning_of (operands.Scalar w) = scalar_meaning (scalar_of w)
+meaning_of operands.NoEffect = quiet

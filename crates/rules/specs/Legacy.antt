@@ -3,5 +3,5 @@ use Rattle.word.specs.declared.Legacy.{Legacy}
 use Rattle.rules.specs.Vocabulary.{Both, SlotAndLast, Meaning, quiet, ◌·◌, needing, clearing, moving}
 
 -- they need both banks; then comes clear, then the slot, and the last SrcA row becomes SrcA counter & 0x30, as before the slot acts; nothing else
-abbrev pub legacyMeaning : Legacy → Meaning
-legacyMeaning l = quiet · needing Both · clearing l.clear · moving (SlotAndLast l.slot)
+abbrev pub legacy_meaning : Legacy → Meaning
+legacy_meaning l = quiet · needing Both · clearing l.clear · moving (SlotAndLast l.slot)

@@ -1,26 +1,26 @@
 -- BITWOPDMAREG, SHIFTDMAREG, CMPDMAREG: document 01, "Scalar", all but the numbers. Definitions only.
 use Rattle.std.specs.Prelude.{cond, ℕ, leb}
 use Rattle.cells.specs.declared.layout.Span.{Span}
-use Rattle.cells.specs.Layout.{noSpan, oneRegister}
+use Rattle.cells.specs.Layout.{no_span, one_register}
 use Rattle.word.specs.declared.Operation.{Operation}
 use Rattle.word.specs.declared.Operation.TheVariants.{Bitwise, Shift, Compare}
 use Rattle.word.specs.declared.Scalar.{Scalar}
-use Rattle.rules.specs.Vocabulary.{Meaning, quiet, ◌·◌, undefinedIf, reading, setting, registersRead, registersSet}
+use Rattle.rules.specs.Vocabulary.{Meaning, quiet, ◌·◌, undefined_if, reading, setting, registers_read, registers_set}
 
 -- how many modes are defined, from 0 on: and, or, xor; left, right; above, below, equal
-abbrev pub scalarModes : Operation → ℕ
-scalarModes Bitwise = 3
-scalarModes Shift = 2
-scalarModes Compare = 3
+abbrev pub scalar_modes : Operation → ℕ
+scalar_modes Bitwise = 3
+scalar_modes Shift = 2
+scalar_modes Compare = 3
 
 -- B is a register or a constant
-abbrev pub scalarB : ℕ → Scalar → Span
-scalarB t s = cond s.constant noSpan (oneRegister t s.b)
+abbrev pub scalar_b : ℕ → Scalar → Span
+scalar_b t s = cond s.constant no_span (one_register t s.b)
 
 -- it reads A, and B unless constant; its result sets its register
-abbrev pub scalarMeaning : Scalar → Meaning
-scalarMeaning s =
+abbrev pub scalar_meaning : Scalar → Meaning
+scalar_meaning s =
     quiet
-    · undefinedIf (leb (scalarModes s.op) s.mode)
-    · reading (λ c t. registersRead (oneRegister t s.a) (scalarB t s))
-    · setting (λ c t. registersSet (oneRegister t s.result))
+    · undefined_if (leb (scalar_modes s.op) s.mode)
+    · reading (λ c t. registers_read (one_register t s.a) (scalar_b t s))
+    · setting (λ c t. registers_set (one_register t s.result))

@@ -1,30 +1,30 @@
 -- SHIFTXA, SHIFTXB: document 01, "What each does", all but the numbers. Definitions only.
 use Rattle.std.specs.Prelude.{ℕ, ◌+◌, ◌%◌, ltb}
 use Rattle.cells.specs.declared.layout.Span.{Span}
-use Rattle.cells.specs.Layout.{bankRows, bankRow, span, noSpan}
+use Rattle.cells.specs.Layout.{bank_rows, bank_row, span, no_span}
 use Rattle.word.specs.declared.ShiftB.{ShiftB}
 use Rattle.control.specs.declared.Control.{Control}
-use Rattle.control.specs.Record.{threadAt}
-use Rattle.rules.specs.Vocabulary.{BankA, BankB, Slot, Meaning, quiet, ◌·◌, undefinedIf, needing, reading, setting, moving, rowsRead, rowsSet}
+use Rattle.control.specs.Record.{thread_at}
+use Rattle.rules.specs.Vocabulary.{BankA, BankB, Slot, Meaning, quiet, ◌·◌, undefined_if, needing, reading, setting, moving, rows_read, rows_set}
 
 -- SHIFTXA writes rows 0..15 of the matrix bank
-unfoldable pub shiftedA : Control → Span
-shiftedA c = span (bankRow c.a.matrix 0) 16
+unfoldable pub shifted_a : Control → Span
+shifted_a c = span (bank_row c.a.matrix 0) 16
 
 -- it has the modes 2 and 3, and needs A; it reads the 16 rows from the last SrcA row on, and sets rows 0..15
-abbrev pub shiftAMeaning : ℕ → Meaning
-shiftAMeaning mode =
+abbrev pub shift_aMeaning : ℕ → Meaning
+shift_aMeaning mode =
     quiet
-    · undefinedIf (ltb mode 2)
+    · undefined_if (ltb mode 2)
     · needing BankA
-    · reading (λ c t. rowsRead (span (bankRow c.a.matrix c.last) 16) noSpan noSpan)
-    · setting (λ c t. rowsSet (shiftedA c) noSpan)
+    · reading (λ c t. rows_read (span (bank_row c.a.matrix c.last) 16) no_span no_span)
+    · setting (λ c t. rows_set (shifted_a c) no_span)
 
 -- SHIFTXB works on row (row + SrcB counter) mod 64 of the matrix bank
-unfoldable pub shiftedB : Control → ℕ → ShiftB → ℕ
-shiftedB c t s = bankRow c.b.matrix ((s.row + (threadAt c t).b.at.0) % bankRows)
+unfoldable pub shifted_b : Control → ℕ → ShiftB → ℕ
+shifted_b c t s = bank_row c.b.matrix ((s.row + (thread_at c t).b.at.0) % bank_rows)
 
 -- it needs B, and reads its row; then slot
-abbrev pub shiftBMeaning : ShiftB → Meaning
-shiftBMeaning s =
-    quiet · needing BankB · reading (λ c t. rowsRead noSpan (span (shiftedB c t s) 1) noSpan) · moving (Slot s.slot)
+abbrev pub shift_bMeaning : ShiftB → Meaning
+shift_bMeaning s =
+    quiet · needing BankB · reading (λ c t. rows_read no_span (span (shifted_b c t s) 1) no_span) · moving (Slot s.slot)

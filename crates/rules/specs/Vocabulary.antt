@@ -2,7 +2,7 @@
 -- What the words ask for and bring about stands in After.antt, Access.antt and Rules.antt. Definitions only.
 use Rattle.std.specs.Prelude.{Bool, true, false, ℕ}
 use Rattle.cells.specs.declared.layout.Span.{Span}
-use Rattle.cells.specs.Layout.{noSpan}
+use Rattle.cells.specs.Layout.{no_span}
 use Rattle.word.specs.declared.Clear.{Clear}
 use Rattle.word.specs.declared.Height.{Height}
 use Rattle.word.specs.declared.SetCounters.{SetCounters}
@@ -61,14 +61,14 @@ pub record Meaning : Type 0 where
 
 -- ---- nothing
 
-abbrev pub noReads : Reads
-noReads = record { a = noSpan; b = noSpan; dst = noSpan; rega = noSpan; regb = noSpan }
+abbrev pub no_reads : Reads
+no_reads = record { a = no_span; b = no_span; dst = no_span; rega = no_span; regb = no_span }
 
 abbrev pub no_sets : Sets
-no_sets = record { a = noSpan; b = noSpan; registers = noSpan }
+no_sets = record { a = no_span; b = no_span; registers = no_span }
 
-abbrev pub noClear : Clear
-noClear = record { a = false; b = false }
+abbrev pub no_clear : Clear
+no_clear = record { a = false; b = false }
 
 -- an instruction of which nothing is said
 abbrev pub quiet : Meaning
@@ -78,9 +78,9 @@ quiet =
       modelled = λ s. true;
       needs = Neither;
       dst = NoRows;
-      reads = λ c t. noReads;
+      reads = λ c t. no_reads;
       sets = λ c t. no_sets;
-      clear = noClear;
+      clear = no_clear;
       move = Stay;
     }
 
@@ -90,12 +90,12 @@ infixl 10 ◌·◌
 abbrev pub ◌·◌ : Meaning → (Meaning → Meaning) → Meaning
 m · f = f m
 
-abbrev pub undefinedIf : Bool → Meaning → Meaning
-undefinedIf x m =
+abbrev pub undefined_if : Bool → Meaning → Meaning
+undefined_if x m =
     record { undefined = x; modelled = m.modelled; needs = m.needs; dst = m.dst; reads = m.reads; sets = m.sets; clear = m.clear; move = m.move }
 
-abbrev pub modelledFor : (Settings → Bool) → Meaning → Meaning
-modelledFor x m =
+abbrev pub modelled_for : (Settings → Bool) → Meaning → Meaning
+modelled_for x m =
     record { undefined = m.undefined; modelled = x; needs = m.needs; dst = m.dst; reads = m.reads; sets = m.sets; clear = m.clear; move = m.move }
 
 abbrev pub needing : Needs → Meaning → Meaning
@@ -124,14 +124,14 @@ moving x m =
 
 -- ---- what is read and set: rows of SrcA, of SrcB and of Dst; registers
 
-abbrev pub rowsRead : Span → Span → Span → Reads
-rowsRead a b dst = record { a = a; b = b; dst = dst; rega = noSpan; regb = noSpan }
+abbrev pub rows_read : Span → Span → Span → Reads
+rows_read a b dst = record { a = a; b = b; dst = dst; rega = no_span; regb = no_span }
 
-abbrev pub registersRead : Span → Span → Reads
-registersRead a b = record { a = noSpan; b = noSpan; dst = noSpan; rega = a; regb = b }
+abbrev pub registers_read : Span → Span → Reads
+registers_read a b = record { a = no_span; b = no_span; dst = no_span; rega = a; regb = b }
 
-abbrev pub rowsSet : Span → Span → Sets
-rowsSet a b = record { a = a; b = b; registers = noSpan }
+abbrev pub rows_set : Span → Span → Sets
+rows_set a b = record { a = a; b = b; registers = no_span }
 
-abbrev pub registersSet : Span → Sets
-registersSet r = record { a = noSpan; b = noSpan; registers = r }
+abbrev pub registers_set : Span → Sets
+registers_set r = record { a = no_span; b = no_span; registers = r }

@@ -1,22 +1,22 @@
 -- ZEROSRC: document 01, "What each does", all but the numbers. Definitions only.
 use Rattle.std.specs.Prelude.{cond}
 use Rattle.cells.specs.declared.layout.Span.{Span}
-use Rattle.cells.specs.Layout.{srcRows, span, noSpan, bankSpan}
+use Rattle.cells.specs.Layout.{src_rows, span, no_span, bank_span}
 use Rattle.word.specs.declared.ZeroSrc.{ZeroSrc}
 use Rattle.control.specs.declared.Banks.{Banks}
 use Rattle.control.specs.declared.Control.{Control}
-use Rattle.rules.specs.Vocabulary.{Meaning, quiet, ◌·◌, setting, rowsSet}
+use Rattle.rules.specs.Vocabulary.{Meaning, quiet, ◌·◌, setting, rows_set}
 
 -- all of a chosen file: both banks, or the bank at the unpackers' pointer
-abbrev pub filledIn : Banks → ZeroSrc → Span
-filledIn b z = cond z.both (span 0 srcRows) (bankSpan b.unpack)
+abbrev pub filled_in : Banks → ZeroSrc → Span
+filled_in b z = cond z.both (span 0 src_rows) (bank_span b.unpack)
 
-unfoldable pub filledA : Control → ZeroSrc → Span
-filledA c z = cond z.a (filledIn c.a z) noSpan
+unfoldable pub filled_a : Control → ZeroSrc → Span
+filled_a c z = cond z.a (filled_in c.a z) no_span
 
-unfoldable pub filledB : Control → ZeroSrc → Span
-filledB c z = cond z.b (filledIn c.b z) noSpan
+unfoldable pub filled_b : Control → ZeroSrc → Span
+filled_b c z = cond z.b (filled_in c.b z) no_span
 
 -- it sets the filled banks; owners don't matter
-abbrev pub zeroSrcMeaning : ZeroSrc → Meaning
-zeroSrcMeaning z = quiet · setting (λ c t. rowsSet (filledA c z) (filledB c z))
+abbrev pub zero_src_meaning : ZeroSrc → Meaning
+zero_src_meaning z = quiet · setting (λ c t. rows_set (filled_a c z) (filled_b c z))

@@ -1,14 +1,14 @@
 // SETRWC, INCRWC: their rule.
 ghost use Rattle.std.specs.Prelude.{◌≡◌, [], ◌∷◌, leb};
-ghost use Rattle.rules.specs.Rules.{◌when◌, refusedIf, verdictAnswer, lowestAnswer};
+ghost use Rattle.rules.specs.Rules.{◌when◌, refused_if, verdict_answer, lowest_answer};
 
 use crate::{Verdict, vocabulary};
 use word::Refusal;
 
 // The mode must be 0.
 pub fn judge_counters(mode: u32) -> Verdict
-    ensures verdict { result ≡ refusedIf (leb 1 mode) Refusal.UndefinedMode }
-    ensures number { verdictAnswer result ≡ lowestAnswer ((Refusal.UndefinedMode when leb 1 mode) ∷ []) }
+    ensures verdict { result ≡ refused_if (leb 1 mode) Refusal.UndefinedMode }
+    ensures number { verdict_answer result ≡ lowest_answer ((Refusal.UndefinedMode when leb 1 mode) ∷ []) }
 {
     vocabulary::refused_if(1 <= mode, Refusal::UndefinedMode)
 }

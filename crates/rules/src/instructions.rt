@@ -1,26 +1,26 @@
 // Every instruction once in each of: the rules 4 to 7, and what becomes of the record.
 ghost use Rattle.std.specs.Prelude.{◌≡◌, ℕ};
-ghost use Rattle.control.specs.Halves.{Choice, threadOf, joined};
-ghost use Rattle.rules.specs.Vocabulary.{noClear};
-ghost use Rattle.rules.specs.Multiply.{countedA};
-ghost use Rattle.rules.specs.Instructions.{meaningOf};
-ghost use Rattle.rules.specs.After.{slotNumber, threadBy, last_by, leavesRecord};
-ghost use Rattle.rules.specs.Rules.{operandRules, lowest, verdictAnswer, lowestAnswer};
+ghost use Rattle.control.specs.Halves.{Choice, thread_of, joined};
+ghost use Rattle.rules.specs.Vocabulary.{no_clear};
+ghost use Rattle.rules.specs.Multiply.{counted_a};
+ghost use Rattle.rules.specs.Instructions.{meaning_of};
+ghost use Rattle.rules.specs.After.{slot_number, thread_by, last_by, leaves_record};
+ghost use Rattle.rules.specs.Rules.{operand_rules, lowest, verdict_answer, lowest_answer};
 
 use crate::{Verdict, counters, legacy, multiply, scalar, shifts};
 use control::{Core, Own, Slot};
 use word::{Clear, Operands};
 
 fn no_clear() -> Clear
-    ensures { result ≡ noClear }
+    ensures { result ≡ no_clear }
 {
     Clear { a: false, b: false }
 }
 
 // Which of the rules 4 to 7 is broken first. The address slots are any.
 pub fn judge_operands(k: Core, thread: u8, f: Operands) -> Verdict
-    ensures verdict { (s : ℕ → Choice) → result ≡ lowest (operandRules (joined k s) thread f) }
-    ensures number { (s : ℕ → Choice) → verdictAnswer result ≡ lowestAnswer (operandRules (joined k s) thread f) }
+    ensures verdict { (s : ℕ → Choice) → result ≡ lowest (operand_rules (joined k s) thread f) }
+    ensures number { (s : ℕ → Choice) → verdict_answer result ≡ lowest_answer (operand_rules (joined k s) thread f) }
 {
     match f {
         Operands::Multiply(w) => multiply::judge_multiply(k, thread, w),
@@ -37,7 +37,7 @@ pub fn judge_operands(k: Core, thread: u8, f: Operands) -> Verdict
 
 // The number that names its slot; 0 where it has none.
 pub fn slot_number(f: Operands) -> u32
-    ensures { result ≡ slotNumber f }
+    ensures { result ≡ slot_number f }
 {
     match f {
         Operands::Multiply(w) => w.fields().slot,
@@ -56,7 +56,7 @@ pub fn slot_number(f: Operands) -> u32
 
 // Of its thread, whose own numbers are `x`; `slot` is the one that its number names. The address slots are any.
 pub fn own_after(x: Own, slot: Slot, f: Operands) -> Own
-    ensures { (h : Choice) → threadOf result h ≡ threadBy (meaningOf f).move slot (threadOf x h) }
+    ensures { (h : Choice) → thread_of result h ≡ thread_by (meaning_of f).move slot (thread_of x h) }
 {
     match f {
         Operands::Multiply(_) => {}
@@ -81,7 +81,7 @@ pub fn own_after(x: Own, slot: Slot, f: Operands) -> Own
 
 // The files that it clears.
 pub fn clear_by(f: Operands) -> Clear
-    ensures { result ≡ (meaningOf f).clear }
+    ensures { result ≡ (meaning_of f).clear }
 {
     match f {
         Operands::Multiply(w) => w.fields().clear,
@@ -98,7 +98,7 @@ pub fn clear_by(f: Operands) -> Clear
 
 // By the thread's own numbers before it.
 pub fn last_after(x: Own, last: u8, f: Operands) -> u8
-    ensures { result ≡ last_by (meaningOf f).move (countedA x) last }
+    ensures { result ≡ last_by (meaning_of f).move (counted_a x) last }
 {
     match f {
         Operands::Multiply(_) => {}
@@ -116,7 +116,7 @@ pub fn last_after(x: Own, last: u8, f: Operands) -> u8
 
 // Whether it leaves the record as it is, whatever this holds.
 pub fn leaves_record(f: Operands) -> bool
-    ensures { result ≡ leavesRecord f }
+    ensures { result ≡ leaves_record f }
 {
     match f {
         Operands::Multiply(_) => false,

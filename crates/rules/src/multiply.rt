@@ -1,12 +1,12 @@
 // MVMUL, DOTPV, GAPOOL: all but the numbers.
 ghost use Rattle.std.specs.Prelude.{◌≡◌, ℕ, ◌+◌, leb};
-ghost use Rattle.cells.specs.Places.{rowCount};
+ghost use Rattle.cells.specs.Places.{row_count};
 ghost use Rattle.word.specs.declared.Operands.TheVariants as operands;
 ghost use Rattle.control.specs.Record.{width_of};
 ghost use Rattle.control.specs.Halves.{Choice, joined};
-ghost use Rattle.rules.specs.Multiply.{heightRows, multiplyModes, modelled, countedA, countedB, heightMask, countedDst, countedPhase};
+ghost use Rattle.rules.specs.Multiply.{height_rows, multiply_modes, modelled, counted_a, counted_b, height_mask, counted_dst, counted_phase};
 ghost use Rattle.rules.specs.Access.{reads_of};
-ghost use Rattle.rules.specs.Rules.{operandRules, lowest, verdictAnswer, lowestAnswer};
+ghost use Rattle.rules.specs.Rules.{operand_rules, lowest, verdict_answer, lowest_answer};
 
 use crate::{Reads, Verdict, vocabulary};
 use cells::Span;
@@ -14,7 +14,7 @@ use control::{Core, Own, Settings};
 use word::{Height, MultiplyWord, Refusal};
 
 pub fn height_rows(height: Height) -> u32
-    ensures { result ≡ heightRows height }
+    ensures { result ≡ height_rows height }
 {
     match height {
         Height::Eight => 8,
@@ -23,7 +23,7 @@ pub fn height_rows(height: Height) -> u32
 }
 
 fn multiply_modes(height: Height) -> u32
-    ensures { result ≡ multiplyModes height }
+    ensures { result ≡ multiply_modes height }
 {
     match height {
         Height::Eight => 1,
@@ -41,13 +41,13 @@ fn is_modelled(s: Settings) -> bool
 // ---- the rows, by a thread's own numbers
 
 pub fn row_a(x: Own) -> u8
-    ensures { result ≡ countedA x }
+    ensures { result ≡ counted_a x }
 {
     x.a.at.0 & 0x30
 }
 
 pub fn row_b(x: Own) -> u8
-    ensures { result ≡ countedB x }
+    ensures { result ≡ counted_b x }
 {
     x.b.at.0 & 0x38
 }
@@ -59,7 +59,7 @@ fn dst_sum(dst: u32, offset: u16, at: u16, base: u16) -> u64
 }
 
 fn height_mask(height: Height) -> u32
-    ensures { result ≡ heightMask height }
+    ensures { result ≡ height_mask height }
 {
     match height {
         Height::Eight => 0x3F8,
@@ -69,7 +69,7 @@ fn height_mask(height: Height) -> u32
 
 // The first Dst row: the sum is masked, and never taken modulo 512.
 pub fn row_dst(base: u16, x: Own, height: Height, dst: u32) -> u32
-    ensures { result ≡ countedDst base x height dst }
+    ensures { result ≡ counted_dst base x height dst }
 {
     let sum = dst_sum(dst, x.offset, x.dst.at.0, base);
     let mask = height_mask(height);
@@ -77,7 +77,7 @@ pub fn row_dst(base: u16, x: Own, height: Height, dst: u32) -> u32
 }
 
 pub fn phase_of(x: Own) -> u8
-    ensures { result ≡ countedPhase x }
+    ensures { result ≡ counted_phase x }
 {
     (x.phase % 4 + x.fidelity % 4) % 4
 }
@@ -112,7 +112,7 @@ pub fn multiply_reads(k: Core, thread: u8, w: MultiplyWord) -> Reads
 
 // A row below 512 is inside Dst whatever its width.
 fn past_end(s: Settings, row: u32) -> bool
-    ensures { result ≡ leb (rowCount (width_of s)) row }
+    ensures { result ≡ leb (row_count (width_of s)) row }
 {
     if row < cells::DST_ROWS {
         return false;
@@ -121,8 +121,8 @@ fn past_end(s: Settings, row: u32) -> bool
 }
 
 pub fn judge_multiply(k: Core, thread: u8, w: MultiplyWord) -> Verdict
-    ensures verdict { (s : ℕ → Choice) → result ≡ lowest (operandRules (joined k s) thread (operands.Multiply w)) }
-    ensures number { (s : ℕ → Choice) → verdictAnswer result ≡ lowestAnswer (operandRules (joined k s) thread (operands.Multiply w)) }
+    ensures verdict { (s : ℕ → Choice) → result ≡ lowest (operand_rules (joined k s) thread (operands.Multiply w)) }
+    ensures number { (s : ℕ → Choice) → verdict_answer result ≡ lowest_answer (operand_rules (joined k s) thread (operands.Multiply w)) }
 {
     let m = w.fields();
     let height = m.height;

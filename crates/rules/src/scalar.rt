@@ -1,14 +1,14 @@
 // BITWOPDMAREG, SHIFTDMAREG, CMPDMAREG: their rule.
 ghost use Rattle.std.specs.Prelude.{◌≡◌, [], ◌∷◌};
 ghost use Rattle.word.specs.declared.Operands.TheVariants as operands;
-ghost use Rattle.rules.specs.Scalar.{scalarModes};
-ghost use Rattle.rules.specs.Rules.{undefinedMode, ◌when◌, refusedIf, verdictAnswer, lowestAnswer};
+ghost use Rattle.rules.specs.Scalar.{scalar_modes};
+ghost use Rattle.rules.specs.Rules.{undefined_mode, ◌when◌, refused_if, verdict_answer, lowest_answer};
 
 use crate::{Verdict, vocabulary};
 use word::{Operation, Refusal, ScalarWord};
 
 fn scalar_modes(op: Operation) -> u32
-    ensures { result ≡ scalarModes op }
+    ensures { result ≡ scalar_modes op }
 {
     match op {
         Operation::Bitwise => 3,
@@ -18,8 +18,8 @@ fn scalar_modes(op: Operation) -> u32
 }
 
 pub fn judge_scalar(w: ScalarWord) -> Verdict
-    ensures verdict { result ≡ refusedIf (undefinedMode (operands.Scalar w)) Refusal.UndefinedMode }
-    ensures number { verdictAnswer result ≡ lowestAnswer ((Refusal.UndefinedMode when undefinedMode (operands.Scalar w)) ∷ []) }
+    ensures verdict { result ≡ refused_if (undefined_mode (operands.Scalar w)) Refusal.UndefinedMode }
+    ensures number { verdict_answer result ≡ lowest_answer ((Refusal.UndefinedMode when undefined_mode (operands.Scalar w)) ∷ []) }
 {
     let s = w.fields();
     let op = s.op;

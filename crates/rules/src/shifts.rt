@@ -2,11 +2,11 @@
 ghost use Rattle.std.specs.Prelude.{◌≡◌, not, [], ◌∷◌, ℕ};
 ghost use Rattle.word.specs.declared.ShiftAWord.{ShiftAWord};
 ghost use Rattle.word.specs.declared.Operands.TheVariants as operands;
-ghost use Rattle.control.specs.Record.{matrixOwns};
+ghost use Rattle.control.specs.Record.{matrix_owns};
 ghost use Rattle.control.specs.Halves.{Choice, joined};
-ghost use Rattle.rules.specs.Shifts.{shiftedA, shiftedB};
+ghost use Rattle.rules.specs.Shifts.{shifted_a, shifted_b};
 ghost use Rattle.rules.specs.Access.{reads_of};
-ghost use Rattle.rules.specs.Rules.{operandRules, lowest, ◌when◌, refusedIf, verdictAnswer, lowestAnswer};
+ghost use Rattle.rules.specs.Rules.{operand_rules, lowest, ◌when◌, refused_if, verdict_answer, lowest_answer};
 
 use crate::{Reads, Verdict, vocabulary};
 use cells::Span;
@@ -17,7 +17,7 @@ use word::{Refusal, ShiftAWord, ShiftB, ShiftBWord};
 
 // The address slots are any, here and below.
 pub fn shifted_a(k: Core) -> Span
-    ensures { (s : ℕ → Choice) → result ≡ shiftedA (joined k s) }
+    ensures { (s : ℕ → Choice) → result ≡ shifted_a (joined k s) }
 {
     Span {
         first: cells::bank_row(k.a.matrix, 0),
@@ -38,8 +38,8 @@ pub fn shift_a_reads(k: Core) -> Reads
 }
 
 pub fn judge_shift_a(k: Core, w: ShiftAWord) -> Verdict
-    ensures verdict { (s : ℕ → Choice) → result ≡ lowest (operandRules (joined k s) 0 (operands.ShiftA w)) }
-    ensures number { (s : ℕ → Choice) → verdictAnswer result ≡ lowestAnswer (operandRules (joined k s) 0 (operands.ShiftA w)) }
+    ensures verdict { (s : ℕ → Choice) → result ≡ lowest (operand_rules (joined k s) 0 (operands.ShiftA w)) }
+    ensures number { (s : ℕ → Choice) → verdict_answer result ≡ lowest_answer (operand_rules (joined k s) 0 (operands.ShiftA w)) }
 {
     if w.mode() < 2 {
         return Verdict::Refused(Refusal::UndefinedMode);
@@ -51,7 +51,7 @@ pub fn judge_shift_a(k: Core, w: ShiftAWord) -> Verdict
 // ---- SHIFTXB
 
 pub fn shifted_b(k: Core, thread: u8, f: ShiftB) -> u32
-    ensures { (s : ℕ → Choice) → result ≡ shiftedB (joined k s) thread f }
+    ensures { (s : ℕ → Choice) → result ≡ shifted_b (joined k s) thread f }
 {
     let banks = k.b;
     let x = control::own_at(k, thread);
@@ -72,8 +72,8 @@ pub fn shift_b_reads(k: Core, thread: u8, w: ShiftBWord) -> Reads
 }
 
 pub fn judge_shift_b(k: Core) -> Verdict
-    ensures verdict { result ≡ refusedIf (not (matrixOwns k.b)) Refusal.BankOwner }
-    ensures number { verdictAnswer result ≡ lowestAnswer ((Refusal.BankOwner when not (matrixOwns k.b)) ∷ []) }
+    ensures verdict { result ≡ refused_if (not (matrix_owns k.b)) Refusal.BankOwner }
+    ensures number { verdict_answer result ≡ lowest_answer ((Refusal.BankOwner when not (matrix_owns k.b)) ∷ []) }
 {
     let b = k.b;
     vocabulary::refused_if(!control::matrix_owns(b), Refusal::BankOwner)

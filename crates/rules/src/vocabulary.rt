@@ -1,15 +1,15 @@
 // The words that the classes share: nothing read; a rule alone; both banks.
 ghost use Rattle.std.specs.Prelude.{◌≡◌, [], ◌∷◌, ℕ};
 ghost use Rattle.control.specs.Halves.{Choice, joined};
-ghost use Rattle.rules.specs.Vocabulary.{noReads};
-ghost use Rattle.rules.specs.Rules.{bothOwned, ◌when◌, refusedIf, verdictAnswer, lowestAnswer};
+ghost use Rattle.rules.specs.Vocabulary.{no_reads};
+ghost use Rattle.rules.specs.Rules.{both_owned, ◌when◌, refused_if, verdict_answer, lowest_answer};
 
 use crate::{Reads, Verdict};
 use control::Core;
 use word::Refusal;
 
 pub(crate) fn no_reads() -> Reads
-    ensures { result ≡ noReads }
+    ensures { result ≡ no_reads }
 {
     let n = cells::no_span();
     Reads {
@@ -23,8 +23,8 @@ pub(crate) fn no_reads() -> Reads
 
 // One rule alone.
 pub fn refused_if(bad: bool, refusal: Refusal) -> Verdict
-    ensures verdict { result ≡ refusedIf bad refusal }
-    ensures number { verdictAnswer result ≡ lowestAnswer ((refusal when bad) ∷ []) }
+    ensures verdict { result ≡ refused_if bad refusal }
+    ensures number { verdict_answer result ≡ lowest_answer ((refusal when bad) ∷ []) }
 {
     if bad {
         return Verdict::Refused(refusal);
@@ -34,7 +34,7 @@ pub fn refused_if(bad: bool, refusal: Refusal) -> Verdict
 
 // The address slots are any.
 pub(crate) fn both_owned(k: Core) -> bool
-    ensures { (s : ℕ → Choice) → result ≡ bothOwned (joined k s) }
+    ensures { (s : ℕ → Choice) → result ≡ both_owned (joined k s) }
 {
     let a = k.a;
     let b = k.b;

@@ -1,7 +1,7 @@
 // ZEROSRC: the rows that it fills.
 ghost use Rattle.std.specs.Prelude.{◌≡◌, ℕ};
 ghost use Rattle.control.specs.Halves.{Choice, joined};
-ghost use Rattle.rules.specs.ZeroSrc.{filledIn, filledA, filledB};
+ghost use Rattle.rules.specs.ZeroSrc.{filled_in, filled_a, filled_b};
 
 use cells::Span;
 use control::{Banks, Core};
@@ -9,7 +9,7 @@ use word::ZeroSrc;
 
 // Of a chosen file: both banks, or the one at the unpackers' pointer.
 fn filled_in(b: Banks, z: ZeroSrc) -> Span
-    ensures { result ≡ filledIn b z }
+    ensures { result ≡ filled_in b z }
 {
     if z.both {
         return Span {
@@ -22,7 +22,7 @@ fn filled_in(b: Banks, z: ZeroSrc) -> Span
 
 // The address slots are any.
 pub fn filled_a(k: Core, z: ZeroSrc) -> Span
-    ensures { (s : ℕ → Choice) → result ≡ filledA (joined k s) z }
+    ensures { (s : ℕ → Choice) → result ≡ filled_a (joined k s) z }
 {
     let b = k.a;
     if z.a {
@@ -32,7 +32,7 @@ pub fn filled_a(k: Core, z: ZeroSrc) -> Span
 }
 
 pub fn filled_b(k: Core, z: ZeroSrc) -> Span
-    ensures { (s : ℕ → Choice) → result ≡ filledB (joined k s) z }
+    ensures { (s : ℕ → Choice) → result ≡ filled_b (joined k s) z }
 {
     let b = k.b;
     if z.b {

@@ -2,12 +2,12 @@
 ghost use Rattle.std.specs.Prelude.{◌≡◌, List, ℕ};
 ghost use Rattle.cells.specs.declared.Width.TheVariants as Width;
 ghost use Rattle.cells.specs.Cells.{over, in_span};
-ghost use Rattle.cells.specs.Layout.{oneRegister};
-ghost use Rattle.cells.specs.State.{state, withSrcFile, srcFile};
+ghost use Rattle.cells.specs.Layout.{one_register};
+ghost use Rattle.cells.specs.State.{state, with_src_file, src_file};
 ghost use Rattle.control.specs.Halves.{Choice, joined};
-ghost use Rattle.job.specs.Kinds.{registerValue};
+ghost use Rattle.job.specs.Kinds.{register_value};
 ghost use Rattle.job.specs.Loading.{loaded};
-ghost use Rattle.walk.specs.FieldRecord.{loadedRows};
+ghost use Rattle.walk.specs.FieldRecord.{loaded_rows};
 ghost use Rattle.run.specs.Perform.{written};
 
 use cells::{File, Span, Width};
@@ -17,8 +17,8 @@ use job::Write;
 // Src loads go into the unpackers' bank. The other two files and the address slots are any.
 fn load_src(payload: &[u8], k: Core, which: File, rows: Span, srca: &mut [u32], srcb: &mut [u32])
     ensures { (s : ℕ → Choice) (d r : List ℕ) → state srca.new srcb.new d r
-        ≡ withSrcFile (state srca.old srcb.old d r) which
-        (loaded Width.Bits32 payload.now (loadedRows (joined k s) which rows) (srcFile (state srca.old srcb.old d r) which)) }
+        ≡ with_src_file (state srca.old srcb.old d r) which
+        (loaded Width.Bits32 payload.now (loaded_rows (joined k s) which rows) (src_file (state srca.old srcb.old d r) which)) }
 {
     let base = walk::bank_start(k, which);
     match which {
@@ -28,7 +28,7 @@ fn load_src(payload: &[u8], k: Core, which: File, rows: Span, srca: &mut [u32], 
 }
 
 fn load_register(payload: &[u8], thread: u8, r: u8, registers: &mut [u32])
-    ensures { registers.new ≡ over (in_span (oneRegister thread r)) (λ i. registerValue payload.now) registers.old }
+    ensures { registers.new ≡ over (in_span (one_register thread r)) (λ i. register_value payload.now) registers.old }
 {
     let i = cells::register_at(thread, r) as usize;
     if registers.len() <= i {

@@ -7,22 +7,22 @@ use Rattle.run.specs.declared.Outcome.TheVariants as outcome
 use Rattle.show.specs.declared.end.End.{End}
 use Rattle.show.specs.declared.end.End.TheVariants.{Done, Refused, Unread, Unwritten}
 
-abbrev pub runEnd : Outcome → End
-runEnd (outcome.Finished count) = Done
-runEnd (outcome.Refused refusal place) = Refused
+abbrev pub run_end : Outcome → End
+run_end (outcome.Finished count) = Done
+run_end (outcome.Refused refusal place) = Refused
 
-abbrev pub checkEnd : Checked → End
-checkEnd (checked.Passed count) = Done
-checkEnd (checked.Refused refusal place) = Refused
+abbrev pub check_end : Checked → End
+check_end (checked.Passed count) = Done
+check_end (checked.Refused refusal place) = Refused
 
 -- what the caller was not told in full is neither done nor refused
-abbrev pub toldEnd : End → Bool → End
-toldEnd end true = end
-toldEnd end false = Unwritten
+abbrev pub told_end : End → Bool → End
+told_end end true = end
+told_end end false = Unwritten
 
 -- the exit status; 2, a wrong call, is not a program's to give
-abbrev pub statusOf : End → ℕ
-statusOf Done = 0
-statusOf Refused = 1
-statusOf Unread = 3
-statusOf Unwritten = 3
+abbrev pub status_of : End → ℕ
+status_of Done = 0
+status_of Refused = 1
+status_of Unread = 3
+status_of Unwritten = 3

@@ -1,7 +1,7 @@
 // How a program ended. The language has no exit status: the program says it on a descriptor of its own, and the caller that
 // opened it gives it on. Where nobody did, saying it does nothing.
 ghost use Rattle.std.specs.Prelude.{◌≡◌};
-ghost use Rattle.show.specs.Ends.{runEnd, checkEnd, toldEnd, statusOf};
+ghost use Rattle.show.specs.Ends.{run_end, check_end, told_end, status_of};
 
 use precheck::Checked;
 use run::Outcome;
@@ -17,7 +17,7 @@ pub enum End {
 const STATUS_FILENO: i32 = 3;
 
 pub fn run_end(outcome: Outcome) -> End
-    ensures { result ≡ runEnd outcome }
+    ensures { result ≡ run_end outcome }
 {
     match outcome {
         Outcome::Finished(_) => End::Done,
@@ -26,7 +26,7 @@ pub fn run_end(outcome: Outcome) -> End
 }
 
 pub fn check_end(checked: Checked) -> End
-    ensures { result ≡ checkEnd checked }
+    ensures { result ≡ check_end checked }
 {
     match checked {
         Checked::Passed(_) => End::Done,
@@ -36,13 +36,13 @@ pub fn check_end(checked: Checked) -> End
 
 // The end as the caller was told it.
 pub fn told(end: End, written: bool) -> End
-    ensures { result ≡ toldEnd end written }
+    ensures { result ≡ told_end end written }
 {
     if written { end } else { End::Unwritten }
 }
 
 fn status_of(end: End) -> u8
-    ensures { result ≡ statusOf end }
+    ensures { result ≡ status_of end }
 {
     match end {
         End::Done => 0,

@@ -5,7 +5,7 @@ use mathlib.Core.List.{List}
 use Prim.Native.Nat.{ℕ}
 use lib.ListN.{length}
 use Rattle.cells.specs.State.{State, state}
-use Rattle.word.specs.Operands.{multiplyOf, shiftAOf, shiftBOf}
+use Rattle.word.specs.Operands.{multiply_of, shift_aOf, shift_bOf}
 use Rattle.word.specs.declared.MultiplyWord.{MultiplyWord}
 use Rattle.word.specs.declared.ShiftAWord.{ShiftAWord}
 use Rattle.word.specs.declared.ShiftBWord.{ShiftBWord}
@@ -16,11 +16,11 @@ use Rattle.control.specs.declared.Control.{Control}
 use Rattle.rules.specs.declared.Verdict.{Verdict}
 use Rattle.rules.specs.declared.Verdict.TheVariants.{Refused}
 use Rattle.product.specs.Product.{multiplied, fits}
-use Rattle.step.specs.Multiply.{productOf}
-use Rattle.step.specs.Shifts.{shiftA, shiftB}
+use Rattle.step.specs.Multiply.{product_of}
+use Rattle.step.specs.Shifts.{shift_a, shift_b}
 use Rattle.step.specs.Effect.{effect_of}
-use Rattle.step.specs.Step.{ifDone}
-use Rattle.step.specs.Inside.{insideA, insideB, inside, acted}
+use Rattle.step.specs.Step.{if_done}
+use Rattle.step.specs.Inside.{inside_a, inside_b, inside, acted}
 
 -- a part of the state, replaced where a test says so
 chosen : (put : List ℕ → State) (b : Bool) (x old : List ℕ) → put (cond b x old) ≡ cond b (put x) (put old)
@@ -28,41 +28,41 @@ chosen put true x old = refl
 chosen put false x old = refl
 
 module _ (c : Control) (t : ℕ) (a b d r : List ℕ) (f : Operands) where
-  pub multiply-acts : (w : MultiplyWord) → f ≡ operands.Multiply w → {n : List ℕ}
-      → n ≡ cond (fits (productOf c t (multiplyOf w)) (length a) (length b) (length d)) (multiplied (productOf c t (multiplyOf w)) a b d) d
+  pub multiply_acts : (w : MultiplyWord) → f ≡ operands.Multiply w → {n : List ℕ}
+      → n ≡ cond (fits (product_of c t (multiply_of w)) (length a) (length b) (length d)) (multiplied (product_of c t (multiply_of w)) a b d) d
       → state a b n r ≡ acted c t f (state a b d r)
   unfolding acted inside effect_of
-  multiply-acts w e h =
-      let p = productOf c t (multiplyOf w) in
+  multiply_acts w e h =
+      let p = product_of c t (multiply_of w) in
       ap (λ (x : List ℕ). state a b x r) h
       ∙ chosen (λ x. state a b x r) (fits p (length a) (length b) (length d)) (multiplied p a b d) d
       ∙ sym (ap (λ (g : Operands). cond (inside c t g (state a b d r)) (effect_of c t g (state a b d r)) (state a b d r)) e)
 
-  pub shift-a-acts : (w : ShiftAWord) → f ≡ operands.ShiftA w → {n : List ℕ} → n ≡ cond (insideA c (length a)) (shiftA c (shiftAOf w) a) a
+  pub shift_a_acts : (w : ShiftAWord) → f ≡ operands.ShiftA w → {n : List ℕ} → n ≡ cond (inside_a c (length a)) (shift_a c (shift_aOf w) a) a
       → state n b d r ≡ acted c t f (state a b d r)
   unfolding acted inside effect_of
-  shift-a-acts w e h =
+  shift_a_acts w e h =
       ap (λ (x : List ℕ). state x b d r) h
-      ∙ chosen (λ x. state x b d r) (insideA c (length a)) (shiftA c (shiftAOf w) a) a
+      ∙ chosen (λ x. state x b d r) (inside_a c (length a)) (shift_a c (shift_aOf w) a) a
       ∙ sym (ap (λ (g : Operands). cond (inside c t g (state a b d r)) (effect_of c t g (state a b d r)) (state a b d r)) e)
 
-  pub shift-b-acts : (w : ShiftBWord) → f ≡ operands.ShiftB w → {n : List ℕ}
-      → n ≡ cond (insideB c t (shiftBOf w) (length b)) (shiftB c t (shiftBOf w) b) b
+  pub shift_b_acts : (w : ShiftBWord) → f ≡ operands.ShiftB w → {n : List ℕ}
+      → n ≡ cond (inside_b c t (shift_bOf w) (length b)) (shift_b c t (shift_bOf w) b) b
       → state a n d r ≡ acted c t f (state a b d r)
   unfolding acted inside effect_of
-  shift-b-acts w e h =
+  shift_b_acts w e h =
       ap (λ (y : List ℕ). state a y d r) h
-      ∙ chosen (λ y. state a y d r) (insideB c t (shiftBOf w) (length b)) (shiftB c t (shiftBOf w) b) b
+      ∙ chosen (λ y. state a y d r) (inside_b c t (shift_bOf w) (length b)) (shift_b c t (shift_bOf w) b) b
       ∙ sym (ap (λ (g : Operands). cond (inside c t g (state a b d r)) (effect_of c t g (state a b d r)) (state a b d r)) e)
 
 -- whatever its rows, one that is inside has its effect
-pub whole-acts : (c : Control) (t : ℕ) (s : State) (f g : Operands) → f ≡ g → inside c t g s ≡ true → {n : State} → n ≡ effect_of c t g s → n ≡ acted c t f s
+pub whole_acts : (c : Control) (t : ℕ) (s : State) (f g : Operands) → f ≡ g → inside c t g s ≡ true → {n : State} → n ≡ effect_of c t g s → n ≡ acted c t f s
 unfolding acted
-whole-acts c t s f g e i h =
+whole_acts c t s f g e i h =
     h
     ∙ sym (ap (λ (b : Bool). cond b (effect_of c t g s) s) i)
     ∙ sym (ap (λ (x : Operands). cond (inside c t x s) (effect_of c t x s) s) e)
 
 -- a refused one leaves what was there
-pub refused-leaves : (v : Verdict) (x : Refusal) → v ≡ Refused x → (new old : State) → old ≡ ifDone v new old
-refused-leaves v x e new old = sym (ap (λ (w : Verdict). ifDone w new old) e)
+pub refused_leaves : (v : Verdict) (x : Refusal) → v ≡ Refused x → (new old : State) → old ≡ if_done v new old
+refused_leaves v x e new old = sym (ap (λ (w : Verdict). if_done w new old) e)

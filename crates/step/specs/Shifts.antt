@@ -1,11 +1,11 @@
 -- SHIFTXA, SHIFTXB: document 01, "What each does", the numbers. Definitions only.
 use Rattle.std.specs.Prelude.{cond, List, ℕ, ◌+◌, ◌-◌, ◌/◌, ◌%◌, eqb, get_or}
-use Rattle.cells.specs.Layout.{columnCount, cell, span}
-use Rattle.cells.specs.Cells.{overRows}
-use Rattle.cells.specs.State.{State, withSrcA, withSrcB}
+use Rattle.cells.specs.Layout.{column_count, cell, span}
+use Rattle.cells.specs.Cells.{over_rows}
+use Rattle.cells.specs.State.{State, with_src_a, with_src_b}
 use Rattle.word.specs.declared.ShiftB.{ShiftB}
 use Rattle.control.specs.declared.Control.{Control}
-use Rattle.rules.specs.Shifts.{shiftedA, shiftedB}
+use Rattle.rules.specs.Shifts.{shifted_a, shifted_b}
 
 -- ---- column j of row r, moved by one column
 
@@ -19,22 +19,22 @@ leftward end l r j = cond (eqb j 15) end (get_or l (cell r (j + 1)) 0)
 
 -- ---- SHIFTXA: mode 2 to the right, mode 3 to the left; the rows written are 0..15, the old rows read are last..last+15
 
-unfoldable pub shiftA : Control → ℕ → List ℕ → List ℕ
-shiftA c mode l =
-    overRows (shiftedA c)
-    (λ p. cond (eqb mode 2) (rightward l (p / columnCount + c.last) (p % columnCount)) (leftward 0 l (p / columnCount + c.last) (p % columnCount)))
+unfoldable pub shift_a : Control → ℕ → List ℕ → List ℕ
+shift_a c mode l =
+    over_rows (shifted_a c)
+    (λ p. cond (eqb mode 2) (rightward l (p / column_count + c.last) (p % column_count)) (leftward 0 l (p / column_count + c.last) (p % column_count)))
     l
 
-abbrev pub shiftAEffect : Control → ℕ → State → State
-shiftAEffect c mode s = withSrcA s (shiftA c mode s.srca)
+abbrev pub shift_aEffect : Control → ℕ → State → State
+shift_aEffect c mode s = with_src_a s (shift_a c mode s.srca)
 
 -- ---- SHIFTXB: to the left; column 15 gets 0 or the old column 0
 
-unfoldable pub shiftB : Control → ℕ → ShiftB → List ℕ → List ℕ
-shiftB c t x l =
-    overRows (span (shiftedB c t x) 1)
-    (λ p. leftward (cond x.zero 0 (get_or l (cell (shiftedB c t x) 0) 0)) l (p / columnCount) (p % columnCount))
+unfoldable pub shift_b : Control → ℕ → ShiftB → List ℕ → List ℕ
+shift_b c t x l =
+    over_rows (span (shifted_b c t x) 1)
+    (λ p. leftward (cond x.zero 0 (get_or l (cell (shifted_b c t x) 0) 0)) l (p / column_count) (p % column_count))
     l
 
-abbrev pub shiftBEffect : Control → ℕ → ShiftB → State → State
-shiftBEffect c t x s = withSrcB s (shiftB c t x s.srcb)
+abbrev pub shift_bEffect : Control → ℕ → ShiftB → State → State
+shift_bEffect c t x s = with_src_b s (shift_b c t x s.srcb)

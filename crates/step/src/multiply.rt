@@ -2,7 +2,7 @@
 ghost use Rattle.std.specs.Prelude.{◌≡◌, cond, ℕ, length};
 ghost use Rattle.control.specs.Halves.{Choice, joined};
 ghost use Rattle.product.specs.Product.{multiplied, fits};
-ghost use Rattle.step.specs.Multiply.{productOf};
+ghost use Rattle.step.specs.Multiply.{product_of};
 
 use control::Core;
 use product::Product;
@@ -10,7 +10,7 @@ use word::Multiply;
 
 // The address slots are any, here and below.
 fn product_of(k: Core, thread: u8, m: Multiply) -> Product
-    ensures { (s : ℕ → Choice) → result ≡ productOf (joined k s) thread m }
+    ensures { (s : ℕ → Choice) → result ≡ product_of (joined k s) thread m }
 {
     let x = control::own_at(k, thread);
     let height = m.height;
@@ -29,8 +29,8 @@ fn product_of(k: Core, thread: u8, m: Multiply) -> Product
 
 pub fn multiply(k: Core, thread: u8, m: Multiply, srca: &[u32], srcb: &[u32], dst: &mut [u32])
     ensures { (s : ℕ → Choice) → dst.new
-        ≡ cond (fits (productOf (joined k s) thread m) (length srca.now) (length srcb.now) (length dst.old))
-        (multiplied (productOf (joined k s) thread m) srca.now srcb.now dst.old) dst.old }
+        ≡ cond (fits (product_of (joined k s) thread m) (length srca.now) (length srcb.now) (length dst.old))
+        (multiplied (product_of (joined k s) thread m) srca.now srcb.now dst.old) dst.old }
 {
     product::multiply(product_of(k, thread, m), srca, srcb, dst);
 }

@@ -1,11 +1,11 @@
 // BITWOPDMAREG, SHIFTDMAREG, CMPDMAREG: the numbers.
 ghost use Rattle.std.specs.Prelude.{◌≡◌, cond, get_or};
-ghost use Rattle.step.specs.Scalar.{bitwiseOf, shift_of, compareOf, computed, operandB, scalar};
+ghost use Rattle.step.specs.Scalar.{bitwise_of, shift_of, compare_of, computed, operand_b, scalar};
 
 use word::{Operation, Scalar};
 
 fn bitwise(mode: u32, x: u32, y: u32) -> u32
-    ensures { result ≡ bitwiseOf mode x y }
+    ensures { result ≡ bitwise_of mode x y }
 {
     if mode == 0 {
         return x & y;
@@ -35,7 +35,7 @@ fn as_number(b: bool) -> u32
 }
 
 fn compare(mode: u32, x: u32, y: u32) -> u32
-    ensures { result ≡ compareOf mode x y }
+    ensures { result ≡ compare_of mode x y }
 {
     if mode == 0 {
         return as_number(y < x);
@@ -67,7 +67,7 @@ fn value_at(registers: &[u32], i: usize) -> u32
 }
 
 fn operand_b(thread: u8, s: Scalar, registers: &[u32]) -> u32
-    ensures { result ≡ operandB thread s registers.now }
+    ensures { result ≡ operand_b thread s registers.now }
 {
     if s.constant {
         return s.b as u32;

@@ -1,19 +1,19 @@
 // SHIFTXA, SHIFTXB: the numbers.
 ghost use Rattle.std.specs.Prelude.{◌≡◌, cond, ℕ, ◌+◌, ◌-◌, ◌%◌, ◌≤◌, ◌<◌, eqb, length, get_or};
-ghost use Rattle.cells.specs.Layout.{columnCount, rowStart};
+ghost use Rattle.cells.specs.Layout.{column_count, row_start};
 ghost use Rattle.cells.specs.Cells.{over, between};
 ghost use Rattle.control.specs.Halves.{Choice, joined};
-ghost use Rattle.step.specs.Shifts.{shiftA, shiftB};
-ghost use Rattle.step.specs.Inside.{insideA, insideB};
+ghost use Rattle.step.specs.Shifts.{shift_a, shift_b};
+ghost use Rattle.step.specs.Inside.{inside_a, inside_b};
 
 use control::Core;
 use word::ShiftB;
 
 // One column to the left, from the places `gap` further on; `end` at column 15. A place is read before it is written.
 fn shift_left(lo: usize, hi: usize, gap: usize, end: u32, file: &mut [u32])
-    requires { (hi % columnCount ≡ 0) × (lo ≤ hi) × (hi + gap ≤ length file.old) }
+    requires { (hi % column_count ≡ 0) × (lo ≤ hi) × (hi + gap ≤ length file.old) }
     ensures { file.new
-        ≡ over (between lo hi) (λ p. cond (eqb (p % columnCount) 15) end (get_or file.old (p + gap + 1) 0)) file.old }
+        ≡ over (between lo hi) (λ p. cond (eqb (p % column_count) 15) end (get_or file.old (p + gap + 1) 0)) file.old }
 {
     let mut p = lo;
     while p < hi {
@@ -28,9 +28,9 @@ fn shift_left(lo: usize, hi: usize, gap: usize, end: u32, file: &mut [u32])
 
 // One column to the right, from the places `gap` further on; 0 at column 0. The number to store is held from the turn before.
 fn shift_right(lo: usize, hi: usize, gap: usize, file: &mut [u32])
-    requires { (lo % columnCount ≡ 0) × (lo ≤ hi) × (hi + gap ≤ length file.old) }
+    requires { (lo % column_count ≡ 0) × (lo ≤ hi) × (hi + gap ≤ length file.old) }
     ensures { file.new
-        ≡ over (between lo hi) (λ p. cond (eqb (p % columnCount) 0) 0 (get_or file.old (p + gap - 1) 0)) file.old }
+        ≡ over (between lo hi) (λ p. cond (eqb (p % column_count) 0) 0 (get_or file.old (p + gap - 1) 0)) file.old }
 {
     let mut held = 0;
     let mut p = lo;
@@ -44,7 +44,7 @@ fn shift_right(lo: usize, hi: usize, gap: usize, file: &mut [u32])
 
 // 0 at column 0, and else the number.
 fn unless_first(p: usize, x: u32) -> u32
-    ensures { result ≡ cond (eqb (p % columnCount) 0) 0 x }
+    ensures { result ≡ cond (eqb (p % column_count) 0) 0 x }
 {
     if p % cells::COLUMNS == 0 {
         return 0;
@@ -54,7 +54,7 @@ fn unless_first(p: usize, x: u32) -> u32
 
 // How far on the rows from the last SrcA row stand.
 fn gap_to(last: u8) -> usize
-    ensures { (result ≡ rowStart last) × (result < 4096) }
+    ensures { (result ≡ row_start last) × (result < 4096) }
 {
     cells::row_start(last as u32)
 }
@@ -62,7 +62,7 @@ fn gap_to(last: u8) -> usize
 // The address slots are any, here and below.
 pub fn shift_a(k: Core, mode: u32, srca: &mut [u32])
     ensures { (s : ℕ → Choice) → srca.new
-        ≡ cond (insideA (joined k s) (length srca.old)) (shiftA (joined k s) mode srca.old) srca.old }
+        ≡ cond (inside_a (joined k s) (length srca.old)) (shift_a (joined k s) mode srca.old) srca.old }
 {
     let rows = rules::shifts::shifted_a(k);
     let lo = cells::row_start(rows.first);
@@ -80,7 +80,7 @@ pub fn shift_a(k: Core, mode: u32, srca: &mut [u32])
 
 pub fn shift_b(k: Core, thread: u8, f: ShiftB, srcb: &mut [u32])
     ensures { (s : ℕ → Choice) → srcb.new
-        ≡ cond (insideB (joined k s) thread f (length srcb.old)) (shiftB (joined k s) thread f srcb.old) srcb.old }
+        ≡ cond (inside_b (joined k s) thread f (length srcb.old)) (shift_b (joined k s) thread f srcb.old) srcb.old }
 {
     let lo = cells::row_start(rules::shifts::shifted_b(k, thread, f));
     let hi = lo + cells::COLUMNS;

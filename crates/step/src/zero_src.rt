@@ -1,16 +1,16 @@
 // ZEROSRC: the numbers.
 ghost use Rattle.std.specs.Prelude.{◌≡◌, ℕ};
 ghost use Rattle.control.specs.Halves.{Choice, joined};
-ghost use Rattle.cells.specs.Cells.{overRows};
-ghost use Rattle.rules.specs.ZeroSrc.{filledA, filledB};
-ghost use Rattle.step.specs.ZeroSrc.{fillA};
+ghost use Rattle.cells.specs.Cells.{over_rows};
+ghost use Rattle.rules.specs.ZeroSrc.{filled_a, filled_b};
+ghost use Rattle.step.specs.ZeroSrc.{fill_a};
 
 use cells::Width;
 use control::Core;
 use word::ZeroSrc;
 
 fn fill_a(z: ZeroSrc) -> u32
-    ensures { result ≡ fillA z }
+    ensures { result ≡ fill_a z }
 {
     if z.write & (z.value != 0) {
         return 0x7FFFF;
@@ -20,8 +20,8 @@ fn fill_a(z: ZeroSrc) -> u32
 
 // The address slots are any.
 pub fn zero_src(k: Core, z: ZeroSrc, srca: &mut [u32], srcb: &mut [u32])
-    ensures { (s : ℕ → Choice) → (srca.new ≡ overRows (filledA (joined k s) z) (λ i. fillA z) srca.old)
-        × (srcb.new ≡ overRows (filledB (joined k s) z) (λ i. 0) srcb.old) }
+    ensures { (s : ℕ → Choice) → (srca.new ≡ over_rows (filled_a (joined k s) z) (λ i. fill_a z) srca.old)
+        × (srcb.new ≡ over_rows (filled_b (joined k s) z) (λ i. 0) srcb.old) }
 {
     cells::fill_rows(
         Width::Bits32,

@@ -8,58 +8,58 @@ use Rattle.cells.specs.declared.layout.File.{File}
 use Rattle.cells.specs.declared.layout.File.TheVariants.{A, B}
 use Rattle.control.specs.declared.Control.{Control}
 use Rattle.control.specs.Range.{in_range}
-use Rattle.control.proofs.StaysInRange.{hand-kept-a, hand-kept-b}
-use Rattle.rules.specs.After.{acting, controlAfter}
-use Rattle.rules.proofs.AfterKeeps.{control-after-kept, record-after-settings}
-use Rattle.job.specs.Fields.{payloadAt}
+use Rattle.control.proofs.StaysInRange.{hand_kept_a, hand_kept_b}
+use Rattle.rules.specs.After.{acting, control_after}
+use Rattle.rules.proofs.AfterKeeps.{control_after_kept, record_after_settings}
+use Rattle.job.specs.Fields.{payload_at}
 use Rattle.job.specs.declared.Kind.{Kind}
 use Rattle.job.specs.declared.Kind.TheVariants.{Settings, Issue, HandOver, Writes, Prints, Wrong}
 use Rattle.job.specs.declared.Field.{Field}
 use Rattle.job.proofs.Shaped.{Sound}
-use Rattle.job.proofs.Settled.{right_kept, settings-field}
-use Rattle.walk.specs.FieldRecord.{handedOver, fieldControl, issueOf}
+use Rattle.job.proofs.Settled.{right_kept, settings_field_lem}
+use Rattle.walk.specs.FieldRecord.{handed_over, field_control, issue_of}
 
 -- ---- in range
 
-hand-kept : (c : Control) (file : File) → in_range c ≡ true → in_range (handedOver c file) ≡ true
-hand-kept c A h = hand-kept-a c h
-hand-kept c B h = hand-kept-b c h
+hand_kept : (c : Control) (file : File) → in_range c ≡ true → in_range (handed_over c file) ≡ true
+hand_kept c A h = hand_kept_a c h
+hand_kept c B h = hand_kept_b c h
 
-pub control-kept : (job : List ℕ) (c : Control) (f : Field) → in_range c ≡ true → Sound job f → in_range (fieldControl job c f.place f.kind) ≡ true
-unfolding fieldControl
-control-kept job c f h s = go f.kind refl
+pub control_kept : (job : List ℕ) (c : Control) (f : Field) → in_range c ≡ true → Sound job f → in_range (field_control job c f.place f.kind) ≡ true
+unfolding field_control
+control_kept job c f h s = go f.kind refl
   where
-    go : (k : Kind) → f.kind ≡ k → in_range (fieldControl job c f.place k) ≡ true
+    go : (k : Kind) → f.kind ≡ k → in_range (field_control job c f.place k) ≡ true
     go Settings e =
-        let x = settings-field job f s e in
-        ap in_range (x.settles c) ∙ right_kept c (payloadAt job f.place) h x.right
-    go (Issue t w) e = control-after-kept c t w h
-    go (HandOver file) e = hand-kept c file h
+        let x = settings_field_lem job f s e in
+        ap in_range (x.settles c) ∙ right_kept c (payload_at job f.place) h x.right
+    go (Issue t w) e = control_after_kept c t w h
+    go (HandOver file) e = hand_kept c file h
     go (Writes x) e = h
     go (Prints o) e = h
     go (Wrong x) e = h
 
 -- ---- the settings
 
-hand-settings : (c : Control) (file : File) → (handedOver c file).settings ≡ c.settings
-hand-settings c A = refl
-hand-settings c B = refl
+hand_settings : (c : Control) (file : File) → (handed_over c file).settings ≡ c.settings
+hand_settings c A = refl
+hand_settings c B = refl
 
-pub settings-stay : (job : List ℕ) (c : Control) (place : ℕ) (k : Kind) → (k ≡ Settings → ⊥) → (fieldControl job c place k).settings ≡ c.settings
-unfolding fieldControl controlAfter
-settings-stay job c place Settings n = absurd (n refl)
-settings-stay job c place (Issue t w) n = record-after-settings c t (acting w)
-settings-stay job c place (HandOver file) n = hand-settings c file
-settings-stay job c place (Writes x) n = refl
-settings-stay job c place (Prints o) n = refl
-settings-stay job c place (Wrong x) n = refl
+pub settings_stay : (job : List ℕ) (c : Control) (place : ℕ) (k : Kind) → (k ≡ Settings → ⊥) → (field_control job c place k).settings ≡ c.settings
+unfolding field_control control_after
+settings_stay job c place Settings n = absurd (n refl)
+settings_stay job c place (Issue t w) n = record_after_settings c t (acting w)
+settings_stay job c place (HandOver file) n = hand_settings c file
+settings_stay job c place (Writes x) n = refl
+settings_stay job c place (Prints o) n = refl
+settings_stay job c place (Wrong x) n = refl
 
 -- ---- at most one issue to a field
 
-pub issue-most : (k : Kind) → issueOf k ≤ 1
-issue-most Settings = omega arith
-issue-most (Issue t w) = omega arith
-issue-most (HandOver file) = omega arith
-issue-most (Writes x) = omega arith
-issue-most (Prints o) = omega arith
-issue-most (Wrong x) = omega arith
+pub issue_most : (k : Kind) → issue_of k ≤ 1
+issue_most Settings = omega arith
+issue_most (Issue t w) = omega arith
+issue_most (HandOver file) = omega arith
+issue_most (Writes x) = omega arith
+issue_most (Prints o) = omega arith
+issue_most (Wrong x) = omega arith

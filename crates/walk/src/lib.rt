@@ -1,15 +1,15 @@
 // What a field makes of the core of the control record, for the pre-check and for the job run, which both walk over a job's fields.
 ghost use Rattle.std.specs.Prelude.{◌≡◌, ℕ, ◌<◌, ◌^◌};
-ghost use Rattle.cells.specs.Layout.{bankRow};
+ghost use Rattle.cells.specs.Layout.{bank_row};
 ghost use Rattle.control.specs.Halves.{Choice, joined};
-ghost use Rattle.walk.specs.FieldRecord.{banksOf, loadedRows, handedOver};
+ghost use Rattle.walk.specs.FieldRecord.{banks_of, loaded_rows, handed_over};
 
 use cells::{File, Span};
 use control::{Banks, Core};
 
 // The address slots are any, here and below.
 pub fn banks_of(k: Core, file: File) -> Banks
-    ensures { (s : ℕ → Choice) → result ≡ banksOf (joined k s) file }
+    ensures { (s : ℕ → Choice) → result ≡ banks_of (joined k s) file }
 {
     match file {
         File::A => k.a,
@@ -19,7 +19,7 @@ pub fn banks_of(k: Core, file: File) -> Banks
 
 // The first row of the bank that a load of a Src file goes into, the one at the unpackers' pointer.
 pub fn bank_start(k: Core, file: File) -> u32
-    ensures { (s : ℕ → Choice) → result ≡ bankRow (banksOf (joined k s) file).unpack 0 }
+    ensures { (s : ℕ → Choice) → result ≡ bank_row (banks_of (joined k s) file).unpack 0 }
 {
     let banks = banks_of(k, file);
     cells::bank_row(banks.unpack, 0)
@@ -27,13 +27,13 @@ pub fn bank_start(k: Core, file: File) -> u32
 
 // The first row of a Src file that a load writes.
 pub fn first_loaded(k: Core, file: File, rows: Span) -> usize
-    ensures { ((s : ℕ → Choice) → result ≡ (loadedRows (joined k s) file rows).first) × (result < 2 ^ 33) }
+    ensures { ((s : ℕ → Choice) → result ≡ (loaded_rows (joined k s) file rows).first) × (result < 2 ^ 33) }
 {
     bank_start(k, file) as usize + rows.first as usize
 }
 
 pub fn hand_over(k: Core, file: File) -> Core
-    ensures { (s : ℕ → Choice) → joined result s ≡ handedOver (joined k s) file }
+    ensures { (s : ℕ → Choice) → joined result s ≡ handed_over (joined k s) file }
 {
     let banks = control::hand_over(banks_of(k, file));
     let mut out = k;

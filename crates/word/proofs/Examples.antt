@@ -6,9 +6,9 @@ use mathlib.Core.List.{[], ◌∷◌, map}
 use mathlib.Core.Option.{none, some}
 use Rattle.cells.specs.Cells.{between}
 use Rattle.word.specs.Table.{table}
-use Rattle.word.specs.Fields.{fields, refusedBy, wordAnswer}
+use Rattle.word.specs.Fields.{fields, refused_by, word_answer}
 
-pub answers : map wordAnswer
+pub answers : map word_answer
     (0x5B883141 ∷ 0x5C802841 ∷ 0x5D000081 ∷ 0x38020000 ∷ 0x3400000D
     ∷ 0x29C0C200 ∷ 0x31C2C1FF ∷ 0x18000400 ∷ 0x26380000 ∷ 0x27000000 ∷ 0x27FFFFFF ∷ 0x34004000 ∷ 0x37000010
     ∷ 0x26FFFFFF ∷ 0x21FFFFFF ∷ 0x21800000 ∷ [])
@@ -21,7 +21,7 @@ pub answers : map wordAnswer
     ∷ fields 0x22 (3 ∷ 3 ∷ [])
     ∷ fields 0x18 (0 ∷ 1 ∷ 0 ∷ [])
     ∷ fields 0x26 (0 ∷ 7 ∷ 0 ∷ 0 ∷ [])
-    ∷ refusedBy 2 none ∷ refusedBy 2 none ∷ refusedBy 3 (some 14) ∷ refusedBy 3 (some 4)
-    ∷ refusedBy 3 (some 16) ∷ refusedBy 3 (some 0) ∷ refusedBy 3 (some 23) ∷ [])
-unfolding wordAnswer table between
+    ∷ refused_by 2 none ∷ refused_by 2 none ∷ refused_by 3 (some 14) ∷ refused_by 3 (some 4)
+    ∷ refused_by 3 (some 16) ∷ refused_by 3 (some 0) ∷ refused_by 3 (some 23) ∷ [])
+unfolding word_answer table between
 answers = refl

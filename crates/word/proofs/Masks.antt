@@ -9,8 +9,8 @@ use lib.Count.{under, count_trailing_zeros}
 use lib.Dec.{eqb}
 use borrow.Author.Tests.{eqb-true, eqb-false, eq-eqb, ne_eqb}
 use Rattle.cells.proofs.Cells.{split}
-use Rattle.word.specs.Bits.{bit, someBelow, lowestBelow}
-use Rattle.word.proofs.Lowest.{some_up, some_same, lowest-same}
+use Rattle.word.specs.Bits.{bit, some_below, lowest_below}
+use Rattle.word.proofs.Lowest.{some_up, some_same, lowest_same}
 
 bit_up : (x i : ℕ) → bit x (suc i) ≡ bit (x / 2) i
 bit_up x i = ap (λ (y : ℕ). eqb (y % 2) 1) (ap (λ (d : ℕ). x / d) (pow-succ' 2 i) ∙ sym (div-div-eq-div-mul x 2 (2 ^ i)))
@@ -33,43 +33,43 @@ low (suc zero) (suc zero) la lb = refl
 low (suc zero) (suc (suc b)) la lb = absurd (omega arith)
 low (suc (suc a)) b la lb = absurd (omega arith)
 
-and-not : (a b : Bool) → (not a && not b) ≡ not (b || a)
-and-not true true = refl
-and-not true false = refl
-and-not false true = refl
-and-not false false = refl
+and_not : (a b : Bool) → (not a && not b) ≡ not (b || a)
+and_not true true = refl
+and_not true false = refl
+and_not false true = refl
+and_not false false = refl
 
 -- a mask leaves a number of n bits as it is just where no bit is 1 that the mask lacks
-pub mask-bits : (n x m : ℕ) → x < 2 ^ n → eqb (bit_and x m) x ≡ not (someBelow (λ i. bit x i && not (bit m i)) n)
-mask-bits zero x m h = let e : x ≡ 0 = omega arith in rw e
-mask-bits (suc n) x m h =
+pub mask_bits : (n x m : ℕ) → x < 2 ^ n → eqb (bit_and x m) x ≡ not (some_below (λ i. bit x i && not (bit m i)) n)
+mask_bits zero x m h = let e : x ≡ 0 = omega arith in rw e
+mask_bits (suc n) x m h =
     let half : x / 2 < 2 ^ n = omega (arith, two-pow-succ n) in
     let f : ℕ → Bool = λ i. bit x i && not (bit m i) in
     let parts : eqb (bit_and x m) x ≡ (eqb (bit_and (x / 2) (m / 2)) (x / 2) && eqb (min (x % 2) (m % 2)) (x % 2)) =
     (λ i. eqb (and_step x m i) (whole i)) ∙ halves (bit_and (x / 2) (m / 2)) (x / 2) (min (x % 2) (m % 2)) (x % 2) (omega arith) (omega arith) in
-    let ups : someBelow (λ i. bit (x / 2) i && not (bit (m / 2) i)) n ≡ someBelow (λ i. f (suc i)) n =
+    let ups : some_below (λ i. bit (x / 2) i && not (bit (m / 2) i)) n ≡ some_below (λ i. f (suc i)) n =
     some_same _ _ n (λ i l. λ j. sym (bit_up x i) j && not (sym (bit_up m i) j)) in
     let first : eqb (min (x % 2) (m % 2)) (x % 2) ≡ not (f 0) =
     low (x % 2) (m % 2) (omega arith) (omega arith) ∙ (λ j. not (eqb (sym (div-one x) j % 2) 1 && not (eqb (sym (div-one m) j % 2) 1))) in
     parts
-    ∙ (λ j. (mask-bits n (x / 2) (m / 2) half ∙ ap not ups) j && first j)
-    ∙ and-not (someBelow (λ i. f (suc i)) n) (f 0)
+    ∙ (λ j. (mask_bits n (x / 2) (m / 2) half ∙ ap not ups) j && first j)
+    ∙ and_not (some_below (λ i. f (suc i)) n) (f 0)
     ∙ ap not (sym (some_up f n))
   where
     whole : x ≡ x / 2 * 2 + x % 2
     whole = omega arith
 
 -- the lowest bit that a mask takes away is the lowest that is 1 and that the mask lacks
-pub mask-lowest : (n x m : ℕ) → count_trailing_zeros n (x - bit_and x m) ≡ lowestBelow (λ i. bit x i && not (bit m i)) n
+pub mask_lowest : (n x m : ℕ) → count_trailing_zeros n (x - bit_and x m) ≡ lowest_below (λ i. bit x i && not (bit m i)) n
 unfolding count_trailing_zeros
-mask-lowest zero x m = refl
-mask-lowest (suc n) x m =
+mask_lowest zero x m = refl
+mask_lowest (suc n) x m =
     let f : ℕ → Bool = λ i. bit x i && not (bit m i) in
-    let ups : lowestBelow (λ i. bit (x / 2) i && not (bit (m / 2) i)) n ≡ lowestBelow (λ i. f (suc i)) n =
-    lowest-same _ _ n (λ i l. λ j. sym (bit_up x i) j && not (sym (bit_up m i) j)) in
+    let ups : lowest_below (λ i. bit (x / 2) i && not (bit (m / 2) i)) n ≡ lowest_below (λ i. f (suc i)) n =
+    lowest_same _ _ n (λ i l. λ j. sym (bit_up x i) j && not (sym (bit_up m i) j)) in
     (λ j. under (odd j) (count_trailing_zeros n (half j)))
     ∙ first (x % 2) (m % 2) (count_trailing_zeros n (x / 2 - bit_and (x / 2) (m / 2))) (omega arith) (omega arith)
-    ∙ (λ j. cond (eqb (sym (div-one x) j % 2) 1 && not (eqb (sym (div-one m) j % 2) 1)) 0 (suc ((mask-lowest n (x / 2) (m / 2) ∙ ups) j)))
+    ∙ (λ j. cond (eqb (sym (div-one x) j % 2) 1 && not (eqb (sym (div-one m) j % 2) 1)) 0 (suc ((mask_lowest n (x / 2) (m / 2) ∙ ups) j)))
   where
     odd : (x - bit_and x m) % 2 ≡ x % 2 - min (x % 2) (m % 2)
     odd = omega (arith, and_step x m, and_le_l (x / 2) (m / 2))

@@ -11,11 +11,11 @@ use lib.Dec.{eqb, ltb}
 use Rattle.cells.specs.Tests.{one_of}
 use Rattle.cells.proofs.Cells.{split}
 use Rattle.cells.proofs.Tests.{Each, each_of}
-use Rattle.word.specs.Refusal.{number_of, tableNumbers, bit_of, bitNumber, bitBy}
+use Rattle.word.specs.Refusal.{number_of, table_numbers, bit_of, bit_number, bit_by}
 use Rattle.word.specs.declared.Refusal.{Refusal}
 use Rattle.word.specs.declared.Refusal.TheVariants as refusal
 
-pub tabled : (r : Refusal) → one_of (number_of r) tableNumbers ≡ true
+pub tabled : (r : Refusal) → one_of (number_of r) table_numbers ≡ true
 tabled refusal.StateLength = refl
 tabled refusal.Shape = refl
 tabled refusal.UnknownOpcode = refl
@@ -32,31 +32,31 @@ one_has f [] h n e = absurd (false≢true e)
 one_has f (m ∷ l) h n e = split (eqb n m) (λ t. ap f (eqb-true n m t) ∙ h.0) (λ t. one_has f l h.1 n (rw t at e))
 
 -- a number of the table fits a byte, and is not 10
-pub tabled-byte : (n : ℕ) → one_of n tableNumbers ≡ true → n < 256
-tabled-byte n h = ltb-true n 256 (one_has (λ m. ltb m 256) tableNumbers (each_of (map (λ (m : ℕ). ltb m 256) tableNumbers) refl) n h)
+pub tabled_byte : (n : ℕ) → one_of n table_numbers ≡ true → n < 256
+tabled_byte n h = ltb-true n 256 (one_has (λ m. ltb m 256) table_numbers (each_of (map (λ (m : ℕ). ltb m 256) table_numbers) refl) n h)
 
-pub tabled-not-ten : (n : ℕ) → one_of n tableNumbers ≡ true → n ≢ 10
-tabled-not-ten n h e = false≢true (rw e at h)
+pub tabled_not_ten : (n : ℕ) → one_of n table_numbers ≡ true → n ≢ 10
+tabled_not_ten n h e = false≢true (rw e at h)
 
 pub data HasBit (r : Refusal) : Type 0 where
   three : (i : ℕ) → r ≡ refusal.UnnamedBit i → HasBit r
   other : number_of r ≢ 3 → bit_of r ≡ none → HasBit r
 
-pub has-bit : (r : Refusal) → HasBit r
-has-bit refusal.StateLength = other (λ e. omega arith) refl
-has-bit refusal.Shape = other (λ e. omega arith) refl
-has-bit refusal.UnknownOpcode = other (λ e. omega arith) refl
-has-bit (refusal.UnnamedBit i) = three i refl
-has-bit refusal.UndefinedMode = other (λ e. omega arith) refl
-has-bit refusal.UnmodelledSettings = other (λ e. omega arith) refl
-has-bit refusal.BankOwner = other (λ e. omega arith) refl
-has-bit refusal.DstRow = other (λ e. omega arith) refl
-has-bit refusal.UnsetRead = other (λ e. omega arith) refl
+pub has_bit : (r : Refusal) → HasBit r
+has_bit refusal.StateLength = other (λ e. omega arith) refl
+has_bit refusal.Shape = other (λ e. omega arith) refl
+has_bit refusal.UnknownOpcode = other (λ e. omega arith) refl
+has_bit (refusal.UnnamedBit i) = three i refl
+has_bit refusal.UndefinedMode = other (λ e. omega arith) refl
+has_bit refusal.UnmodelledSettings = other (λ e. omega arith) refl
+has_bit refusal.BankOwner = other (λ e. omega arith) refl
+has_bit refusal.DstRow = other (λ e. omega arith) refl
+has_bit refusal.UnsetRead = other (λ e. omega arith) refl
 
 -- a bit comes back by the number
-pub bit-back : (r : Refusal) → bitBy (number_of r) (bitNumber (bit_of r)) ≡ bit_of r
-bit-back r = go (has-bit r)
+pub bit_back : (r : Refusal) → bit_by (number_of r) (bit_number (bit_of r)) ≡ bit_of r
+bit_back r = go (has_bit r)
   where
-    go : HasBit r → bitBy (number_of r) (bitNumber (bit_of r)) ≡ bit_of r
+    go : HasBit r → bit_by (number_of r) (bit_number (bit_of r)) ≡ bit_of r
     go (three i q) = rw q
     go (other n e) = rw (e, ne_eqb (number_of r) 3 n)

@@ -12,14 +12,14 @@ use Rattle.cells.specs.Cells.{between}
 use Rattle.cells.specs.Tests.{below}
 use Rattle.cells.proofs.Tests.{below_of}
 use Rattle.cells.proofs.Cells.{split, both}
-use Rattle.word.specs.Bits.{bit, inRanges, someBelow}
+use Rattle.word.specs.Bits.{bit, in_ranges, some_below}
 use Rattle.word.specs.Table.{Row, table, lookup}
-use Rattle.word.specs.Entries.{mask_of, masked, maskedBit}
+use Rattle.word.specs.Entries.{mask_of, masked, masked_bit}
 use Rattle.word.specs.Operands.{opcode_of}
-use Rattle.word.specs.Word.{row_of, strayAt, strayIn, offendingIn}
+use Rattle.word.specs.Word.{row_of, stray_at, stray_in, offending_in}
 use Rattle.word.proofs.Every.{Every}
-use Rattle.word.proofs.Lowest.{some_same, lowest-same, lowest-more}
-use Rattle.word.proofs.Masks.{mask-bits, mask-lowest}
+use Rattle.word.proofs.Lowest.{some_same, lowest_same, lowest_more}
+use Rattle.word.proofs.Masks.{mask_bits, mask_lowest}
 
 -- ---- an opcode that no row has
 
@@ -40,14 +40,14 @@ abbrev same : Bool → Bool → Bool
 same true b = b
 same false b = not b
 
-same-is : (a b : Bool) → same a b ≡ true → a ≡ b
-same-is true true e = refl
-same-is true false e = sym e
-same-is false true e = e
-same-is false false e = refl
+same_is : (a b : Bool) → same a b ≡ true → a ≡ b
+same_is true true e = refl
+same_is true false e = sym e
+same_is false true e = e
+same_is false false e = refl
 
 abbrev right : Row → Bool
-right r = below (λ i. same (bit (mask_of r.named) i) (inRanges r.named i)) 24
+right r = below (λ i. same (bit (mask_of r.named) i) (in_ranges r.named i)) 24
 
 abbrev every : (Row → Bool) → List Row → Bool
 every f [] = true
@@ -64,26 +64,26 @@ tested : (f : Row → Bool) (rs : List Row) → every f rs ≡ true → Every (�
 tested f [] h = tt
 tested f (r ∷ rs) h = let b = both (f r) (every f rs) h in (b.0, tested f rs b.1)
 
-pub found_of : (P : Row → Type 0) (rs : List Row) (op : ℕ) (r : Row) → Every P rs → lookup rs op ≡ some r → P r
-found_of P [] op r h e = absurd (none-some e)
+pub found_of_lem : (P : Row → Type 0) (rs : List Row) (op : ℕ) (r : Row) → Every P rs → lookup rs op ≡ some r → P r
+found_of_lem P [] op r h e = absurd (none_some e)
   where
-    none-some : none ≡ some r → ⊥
-    none-some e = let z : ◌≡◌ {A = ℕ} 0 1 = cc in omega arith
-found_of P (x ∷ rs) op r h e =
+    none_some : none ≡ some r → ⊥
+    none_some e = let z : ◌≡◌ {A = ℕ} 0 1 = cc in omega arith
+found_of_lem P (x ∷ rs) op r h e =
     split (eqb x.opcode op)
     (λ t. subst P (here t) h.0)
-    (λ t. found_of P rs op r h.1 (sym (ap (λ (z : Bool). cond z (some x) (lookup rs op)) t) ∙ e))
+    (λ t. found_of_lem P rs op r h.1 (sym (ap (λ (z : Bool). cond z (some x) (lookup rs op)) t) ∙ e))
   where
     here : eqb x.opcode op ≡ true → x ≡ r
     here t = let e' : some x ≡ some r = sym (ap (λ (z : Bool). cond z (some x) (lookup rs op)) t) ∙ e in cc
 
 -- and has the opcode that was looked for
-pub found-opcode : (rs : List Row) (op : ℕ) (r : Row) → lookup rs op ≡ some r → r.opcode ≡ op
-found-opcode [] op r e = absurd (let z : ◌≡◌ {A = ℕ} 0 1 = cc in omega arith)
-found-opcode (x ∷ rs) op r e =
+pub found_opcode : (rs : List Row) (op : ℕ) (r : Row) → lookup rs op ≡ some r → r.opcode ≡ op
+found_opcode [] op r e = absurd (let z : ◌≡◌ {A = ℕ} 0 1 = cc in omega arith)
+found_opcode (x ∷ rs) op r e =
     split (eqb x.opcode op)
     (λ t. let e' : some x ≡ some r = sym (ap (λ (z : Bool). cond z (some x) (lookup rs op)) t) ∙ e in here e' (eqb-true x.opcode op t))
-    (λ t. found-opcode rs op r (sym (ap (λ (z : Bool). cond z (some x) (lookup rs op)) t) ∙ e))
+    (λ t. found_opcode rs op r (sym (ap (λ (z : Bool). cond z (some x) (lookup rs op)) t) ∙ e))
   where
     here : some x ≡ some r → x.opcode ≡ op → r.opcode ≡ op
     here e q = let same : x ≡ r = cc in sym (ap (λ (r : Row). r.opcode) same) ∙ q
@@ -94,11 +94,11 @@ abbrev strays : ℕ → Row → ℕ → Bool
 strays w r i = bit (w % 2 ^ 24) i && not (bit (mask_of r.named) i)
 
 module _ (w : ℕ) (r : Row) (e : row_of w ≡ some r) where
-  stray-bits : (i : ℕ) → i < 24 → strays w r i ≡ strayAt r.named w i
-  stray-bits i h =
+  stray_bits : (i : ℕ) → i < 24 → strays w r i ≡ stray_at r.named w i
+  stray_bits i h =
       let m = mask_of r.named in
-      let is = below_of (λ i. same (bit m i) (inRanges r.named i)) 24 (found_of (λ r. right r ≡ true) table (opcode_of w) r (tested right table rule) e) in
-      λ j. low_bit w i h j && not (same-is (bit m i) (inRanges r.named i) (is i h) j)
+      let is = below_of (λ i. same (bit m i) (in_ranges r.named i)) 24 (found_of_lem (λ r. right r ≡ true) table (opcode_of w) r (tested right table rule) e) in
+      λ j. low_bit w i h j && not (same_is (bit m i) (in_ranges r.named i) (is i h) j)
     where
       low_bit : (w i : ℕ) → i < 24 → bit (w % 2 ^ 24) i ≡ bit w i
       low_bit w i h =
@@ -107,20 +107,20 @@ module _ (w : ℕ) (r : Row) (e : row_of w ≡ some r) where
           ∙ ap (λ (x : ℕ). eqb x 1) (mod-mod-pow (w / 2 ^ i) (23 - i) 1)
 
   -- an unnamed bit is 1 just where masking changes the word
-  pub mask-ranges : strayIn (some r) w ≡ not (masked w (mask_of r.named))
-  mask-ranges =
+  pub mask_ranges : stray_in (some r) w ≡ not (masked w (mask_of r.named))
+  mask_ranges =
       sym
-      (ap not (mask-bits 24 (w % 2 ^ 24) (mask_of r.named) (omega arith)) ∙ not-not (someBelow (strays w r) 24)
-      ∙ some_same (strays w r) (strayAt r.named w) 24 stray-bits)
+      (ap not (mask_bits 24 (w % 2 ^ 24) (mask_of r.named) (omega arith)) ∙ not_not (some_below (strays w r) 24)
+      ∙ some_same (strays w r) (stray_at r.named w) 24 stray_bits)
     where
-      not-not : (b : Bool) → not (not b) ≡ b
-      not-not true = refl
-      not-not false = refl
+      not_not : (b : Bool) → not (not b) ≡ b
+      not_not true = refl
+      not_not false = refl
 
   -- and the lowest is then the lowest that masking takes away
-  pub mask-offending : strayIn (some r) w ≡ true → offendingIn (some r) w ≡ maskedBit w (mask_of r.named)
-  mask-offending t =
+  pub mask_offending : stray_in (some r) w ≡ true → offending_in (some r) w ≡ masked_bit w (mask_of r.named)
+  mask_offending t =
       sym
-      (mask-lowest 32 (w % 2 ^ 24) (mask_of r.named)
-      ∙ lowest-more (strays w r) 24 32 (omega arith) (some_same (strays w r) (strayAt r.named w) 24 stray-bits ∙ t)
-      ∙ lowest-same (strays w r) (strayAt r.named w) 24 stray-bits)
+      (mask_lowest 32 (w % 2 ^ 24) (mask_of r.named)
+      ∙ lowest_more (strays w r) 24 32 (omega arith) (some_same (strays w r) (stray_at r.named w) 24 stray_bits ∙ t)
+      ∙ lowest_same (strays w r) (stray_at r.named w) 24 stray_bits)

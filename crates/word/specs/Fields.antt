@@ -4,9 +4,9 @@ use Rattle.std.specs.Prelude.{Bool, cond, List, [], ◌∷◌, map, ℕ, ◌+◌
 use Rattle.std.proofs.Math.Option.{Option, none, some}
 use Rattle.word.specs.Bits.{bits, Range, ◌to◌}
 use Rattle.word.specs.Table.{Row}
-use Rattle.word.specs.Word.{row_of, strayIn, offendingIn}
+use Rattle.word.specs.Word.{row_of, stray_in, offending_in}
 use Rattle.word.specs.Refusal.{number_of, bit_of}
-use Rattle.word.specs.Operands.{multiplyOf, legacyOf, setCountersOf, addCountersOf, zeroSrcOf, shiftAOf, shiftBOf, scalarOf}
+use Rattle.word.specs.Operands.{multiply_of, legacy_of, set_counters_of, add_counters_of, zero_src_of, shift_aOf, shift_bOf, scalar_of}
 use Rattle.word.specs.declared.Clear.{Clear}
 use Rattle.word.specs.declared.Which.{Which}
 use Rattle.word.specs.declared.Height.{Height}
@@ -29,7 +29,7 @@ use Rattle.word.specs.declared.Read.TheVariants as read
 
 pub data WordAnswer : Type 0 where
   fields : ℕ → List ℕ → WordAnswer
-  refusedBy : ℕ → Option ℕ → WordAnswer
+  refused_by : ℕ → Option ℕ → WordAnswer
 
 -- ---- of the reader's answer
 
@@ -38,94 +38,94 @@ abbrev pub digit : Bool → ℕ
 digit b = cond b 1 0
 
 -- A 1, B 2
-abbrev pub clearNumber : Clear → ℕ
-clearNumber c = digit c.a + 2 * digit c.b
+abbrev pub clear_number : Clear → ℕ
+clear_number c = digit c.a + 2 * digit c.b
 
 -- A 1, B 2, D 4, F 8
-abbrev pub whichNumber : Which → ℕ
-whichNumber x = digit x.a + 2 * digit x.b + 4 * digit x.dst + 8 * digit x.phase
+abbrev pub which_number : Which → ℕ
+which_number x = digit x.a + 2 * digit x.b + 4 * digit x.dst + 8 * digit x.phase
 
-abbrev pub multiplyNumbers : Multiply → List ℕ
-multiplyNumbers m = clearNumber m.clear ∷ m.mode ∷ m.slot ∷ m.dst ∷ []
+abbrev pub multiply_numbers : Multiply → List ℕ
+multiply_numbers m = clear_number m.clear ∷ m.mode ∷ m.slot ∷ m.dst ∷ []
 
-abbrev pub legacyNumbers : Legacy → List ℕ
-legacyNumbers l = clearNumber l.clear ∷ l.slot ∷ []
+abbrev pub legacy_numbers : Legacy → List ℕ
+legacy_numbers l = clear_number l.clear ∷ l.slot ∷ []
 
-abbrev pub setCountersNumbers : SetCounters → List ℕ
-setCountersNumbers s = clearNumber s.clear ∷ s.mode ∷ s.d ∷ s.b ∷ s.a ∷ whichNumber s.which ∷ []
+abbrev pub set_counters_numbers : SetCounters → List ℕ
+set_counters_numbers s = clear_number s.clear ∷ s.mode ∷ s.d ∷ s.b ∷ s.a ∷ which_number s.which ∷ []
 
-abbrev pub addCountersNumbers : AddCounters → List ℕ
-addCountersNumbers s = s.mode ∷ s.d ∷ s.b ∷ s.a ∷ []
+abbrev pub add_counters_numbers : AddCounters → List ℕ
+add_counters_numbers s = s.mode ∷ s.d ∷ s.b ∷ s.a ∷ []
 
-abbrev pub zeroSrcNumbers : ZeroSrc → List ℕ
-zeroSrcNumbers z = z.value ∷ digit z.write ∷ digit z.both ∷ digit z.b ∷ digit z.a ∷ []
+abbrev pub zero_src_numbers : ZeroSrc → List ℕ
+zero_src_numbers z = z.value ∷ digit z.write ∷ digit z.both ∷ digit z.b ∷ digit z.a ∷ []
 
-abbrev pub shiftBNumbers : ShiftB → List ℕ
-shiftBNumbers s = s.slot ∷ digit s.zero ∷ s.row ∷ []
+abbrev pub shift_bNumbers : ShiftB → List ℕ
+shift_bNumbers s = s.slot ∷ digit s.zero ∷ s.row ∷ []
 
-abbrev pub scalarNumbers : Scalar → List ℕ
-scalarNumbers s = digit s.constant ∷ s.mode ∷ s.result ∷ s.b ∷ s.a ∷ []
+abbrev pub scalar_numbers : Scalar → List ℕ
+scalar_numbers s = digit s.constant ∷ s.mode ∷ s.result ∷ s.b ∷ s.a ∷ []
 
 -- instructions that do the same have one opcode here, the first one's: MVMUL's for DOTPV, CONV3S1's for the legacy six, GATESRCRST's for the three that
 -- change nothing
-abbrev pub heightOpcode : Height → ℕ
-heightOpcode Eight = 0x26
-heightOpcode Four = 0x34
+abbrev pub height_opcode : Height → ℕ
+height_opcode Eight = 0x26
+height_opcode Four = 0x34
 
-abbrev pub operationOpcode : Operation → ℕ
-operationOpcode operation.Bitwise = 0x5B
-operationOpcode operation.Shift = 0x5C
-operationOpcode operation.Compare = 0x5D
+abbrev pub operation_opcode : Operation → ℕ
+operation_opcode operation.Bitwise = 0x5B
+operation_opcode operation.Shift = 0x5C
+operation_opcode operation.Compare = 0x5D
 
-abbrev pub operandsAnswer : Operands → WordAnswer
-operandsAnswer (operands.Multiply x) = fields (heightOpcode (multiplyOf x).height) (multiplyNumbers (multiplyOf x))
-operandsAnswer (operands.Legacy x) = fields 0x22 (legacyNumbers (legacyOf x))
-operandsAnswer (operands.SetCounters x) = fields 0x37 (setCountersNumbers (setCountersOf x))
-operandsAnswer (operands.AddCounters x) = fields 0x38 (addCountersNumbers (addCountersOf x))
-operandsAnswer (operands.ZeroSrc x) = fields 0x11 (zeroSrcNumbers (zeroSrcOf x))
-operandsAnswer (operands.ShiftA x) = fields 0x17 (shiftAOf x ∷ [])
-operandsAnswer (operands.ShiftB x) = fields 0x18 (shiftBNumbers (shiftBOf x))
-operandsAnswer operands.NoEffect = fields 0x35 []
-operandsAnswer (operands.Scalar x) = fields (operationOpcode (scalarOf x).op) (scalarNumbers (scalarOf x))
+abbrev pub operands_answer : Operands → WordAnswer
+operands_answer (operands.Multiply x) = fields (height_opcode (multiply_of x).height) (multiply_numbers (multiply_of x))
+operands_answer (operands.Legacy x) = fields 0x22 (legacy_numbers (legacy_of x))
+operands_answer (operands.SetCounters x) = fields 0x37 (set_counters_numbers (set_counters_of x))
+operands_answer (operands.AddCounters x) = fields 0x38 (add_counters_numbers (add_counters_of x))
+operands_answer (operands.ZeroSrc x) = fields 0x11 (zero_src_numbers (zero_src_of x))
+operands_answer (operands.ShiftA x) = fields 0x17 (shift_aOf x ∷ [])
+operands_answer (operands.ShiftB x) = fields 0x18 (shift_bNumbers (shift_bOf x))
+operands_answer operands.NoEffect = fields 0x35 []
+operands_answer (operands.Scalar x) = fields (operation_opcode (scalar_of x).op) (scalar_numbers (scalar_of x))
 
-abbrev pub readAnswer : Read → WordAnswer
-readAnswer (read.Operands f) = operandsAnswer f
-readAnswer (read.Refused r) = refusedBy (number_of r) (bit_of r)
+abbrev pub read_answer : Read → WordAnswer
+read_answer (read.Operands f) = operands_answer f
+read_answer (read.Refused r) = refused_by (number_of r) (bit_of r)
 
 -- ---- of the word
 
 -- The fields that an instruction goes by: all that its row names, but of the six legacy instructions clear and slot only, and none of the three that change
 -- nothing.
-abbrev pub usedOf : Class → List Range → List Range
-usedOf class.Multiply named = named
-usedOf class.Legacy named = (23 to 22) ∷ (15 to 14) ∷ []
-usedOf class.SetCounters named = named
-usedOf class.AddCounters named = named
-usedOf class.ZeroSrc named = named
-usedOf class.ShiftA named = named
-usedOf class.ShiftB named = named
-usedOf class.NoEffect named = []
-usedOf class.Scalar named = named
+abbrev pub used_of : Class → List Range → List Range
+used_of class.Multiply named = named
+used_of class.Legacy named = (23 to 22) ∷ (15 to 14) ∷ []
+used_of class.SetCounters named = named
+used_of class.AddCounters named = named
+used_of class.ZeroSrc named = named
+used_of class.ShiftA named = named
+used_of class.ShiftB named = named
+used_of class.NoEffect named = []
+used_of class.Scalar named = named
 
 -- and the opcode: the first one's of those that do the same
-abbrev pub usedOpcode : Class → ℕ → ℕ
-usedOpcode class.Multiply opcode = cond (eqb opcode 0x29) 0x26 opcode
-usedOpcode class.Legacy opcode = 0x22
-usedOpcode class.SetCounters opcode = opcode
-usedOpcode class.AddCounters opcode = opcode
-usedOpcode class.ZeroSrc opcode = opcode
-usedOpcode class.ShiftA opcode = opcode
-usedOpcode class.ShiftB opcode = opcode
-usedOpcode class.NoEffect opcode = 0x35
-usedOpcode class.Scalar opcode = opcode
+abbrev pub used_opcode : Class → ℕ → ℕ
+used_opcode class.Multiply opcode = cond (eqb opcode 0x29) 0x26 opcode
+used_opcode class.Legacy opcode = 0x22
+used_opcode class.SetCounters opcode = opcode
+used_opcode class.AddCounters opcode = opcode
+used_opcode class.ZeroSrc opcode = opcode
+used_opcode class.ShiftA opcode = opcode
+used_opcode class.ShiftB opcode = opcode
+used_opcode class.NoEffect opcode = 0x35
+used_opcode class.Scalar opcode = opcode
 
-abbrev pub rowFields : Row → ℕ → List ℕ
-rowFields r w = map (λ (x : Range). bits w x.hi x.lo) (usedOf r.class r.named)
+abbrev pub row_fields : Row → ℕ → List ℕ
+row_fields r w = map (λ (x : Range). bits w x.hi x.lo) (used_of r.class r.named)
 
 abbrev pub answer_in : Option Row → ℕ → WordAnswer
-answer_in none w = refusedBy 2 none
-answer_in (some r) w = cond (strayIn (some r) w) (refusedBy 3 (some (offendingIn (some r) w))) (fields (usedOpcode r.class r.opcode) (rowFields r w))
+answer_in none w = refused_by 2 none
+answer_in (some r) w = cond (stray_in (some r) w) (refused_by 3 (some (offending_in (some r) w))) (fields (used_opcode r.class r.opcode) (row_fields r w))
 
 -- 2 for an unknown opcode, else 3 for an unnamed bit that is 1, and the lowest such bit, else the fields
-unfoldable pub wordAnswer : ℕ → WordAnswer
-wordAnswer w = answer_in (row_of w) w
+unfoldable pub word_answer : ℕ → WordAnswer
+word_answer w = answer_in (row_of w) w

@@ -32,71 +32,71 @@ abbrev pub opcode_of : ℕ → ℕ
 opcode_of w = bits w 31 24
 
 -- 23:22 clear: bit 0 of the field for A, bit 1 for B
-abbrev pub clearOf : ℕ → Clear
-clearOf w = record { a = bit w 22; b = bit w 23 }
+abbrev pub clear_of : ℕ → Clear
+clear_of w = record { a = bit w 22; b = bit w 23 }
 
 -- 3:0 which: A 1, B 2, D 4, F 8
-abbrev pub whichOf : ℕ → Which
-whichOf w = record { a = bit w 0; b = bit w 1; dst = bit w 2; phase = bit w 3 }
+abbrev pub which_of : ℕ → Which
+which_of w = record { a = bit w 0; b = bit w 1; dst = bit w 2; phase = bit w 3 }
 
 -- MVMUL and DOTPV do eight rows, GAPOOL four
-abbrev pub heightOf : ℕ → Height
-heightOf w = cond (eqb (opcode_of w) 0x34) Four Eight
+abbrev pub height_of : ℕ → Height
+height_of w = cond (eqb (opcode_of w) 0x34) Four Eight
 
 -- 15:14 slot; GAPOOL has it at 16:15
-abbrev pub multiplySlot : Height → ℕ → ℕ
-multiplySlot Eight w = bits w 15 14
-multiplySlot Four w = bits w 16 15
+abbrev pub multiply_slot : Height → ℕ → ℕ
+multiply_slot Eight w = bits w 15 14
+multiply_slot Four w = bits w 16 15
 
 -- MVMUL, DOTPV, GAPOOL
-abbrev pub multiplyOf : MultiplyWord → Multiply
-multiplyOf x =
+abbrev pub multiply_of : MultiplyWord → Multiply
+multiply_of x =
     let w = x.0 in
-    record { height = heightOf w; clear = clearOf w; mode = bits w 21 19; slot = multiplySlot (heightOf w) w; dst = bits w 13 0 }
+    record { height = height_of w; clear = clear_of w; mode = bits w 21 19; slot = multiply_slot (height_of w) w; dst = bits w 13 0 }
 
 -- CONV3S1, CONV3S2, MPOOL3S1, APOOL3S1, MPOOL3S2, APOOL3S2: their other named bits are not gone by
-abbrev pub legacyOf : LegacyWord → Legacy
-legacyOf x = record { clear = clearOf x.0; slot = bits x.0 15 14 }
+abbrev pub legacy_of : LegacyWord → Legacy
+legacy_of x = record { clear = clear_of x.0; slot = bits x.0 15 14 }
 
 -- SETRWC
-abbrev pub setCountersOf : SetCountersWord → SetCounters
-setCountersOf x =
+abbrev pub set_counters_of : SetCountersWord → SetCounters
+set_counters_of x =
     let w = x.0 in
-    record { clear = clearOf w; mode = bits w 21 18; d = bits w 17 14; b = bits w 13 10; a = bits w 9 6; which = whichOf w }
+    record { clear = clear_of w; mode = bits w 21 18; d = bits w 17 14; b = bits w 13 10; a = bits w 9 6; which = which_of w }
 
 -- INCRWC
-abbrev pub addCountersOf : AddCountersWord → AddCounters
-addCountersOf x = let w = x.0 in record { mode = bits w 23 18; d = bits w 17 14; b = bits w 13 10; a = bits w 9 6 }
+abbrev pub add_counters_of : AddCountersWord → AddCounters
+add_counters_of x = let w = x.0 in record { mode = bits w 23 18; d = bits w 17 14; b = bits w 13 10; a = bits w 9 6 }
 
 -- ZEROSRC
-abbrev pub zeroSrcOf : ZeroSrcWord → ZeroSrc
-zeroSrcOf x = let w = x.0 in record { value = bits w 23 4; write = bit w 3; both = bit w 2; b = bit w 1; a = bit w 0 }
+abbrev pub zero_src_of : ZeroSrcWord → ZeroSrc
+zero_src_of x = let w = x.0 in record { value = bits w 23 4; write = bit w 3; both = bit w 2; b = bit w 1; a = bit w 0 }
 
 -- SHIFTXA: 1:0 mode
-abbrev pub shiftAOf : ShiftAWord → ℕ
-shiftAOf x = bits x.0 1 0
+abbrev pub shift_aOf : ShiftAWord → ℕ
+shift_aOf x = bits x.0 1 0
 
 -- SHIFTXB
-abbrev pub shiftBOf : ShiftBWord → ShiftB
-shiftBOf x = let w = x.0 in record { slot = bits w 15 14; zero = bit w 10; row = bits w 9 0 }
+abbrev pub shift_bOf : ShiftBWord → ShiftB
+shift_bOf x = let w = x.0 in record { slot = bits w 15 14; zero = bit w 10; row = bits w 9 0 }
 
 -- BITWOPDMAREG, SHIFTDMAREG, CMPDMAREG
-abbrev pub operationOf : ℕ → Operation
-operationOf w = cond (eqb (opcode_of w) 0x5B) operation.Bitwise (cond (eqb (opcode_of w) 0x5C) operation.Shift operation.Compare)
+abbrev pub operation_of : ℕ → Operation
+operation_of w = cond (eqb (opcode_of w) 0x5B) operation.Bitwise (cond (eqb (opcode_of w) 0x5C) operation.Shift operation.Compare)
 
-abbrev pub scalarOf : ScalarWord → Scalar
-scalarOf x =
+abbrev pub scalar_of : ScalarWord → Scalar
+scalar_of x =
     let w = x.0 in
-    record { op = operationOf w; constant = bit w 23; mode = bits w 20 18; result = bits w 17 12; b = bits w 11 6; a = bits w 5 0 }
+    record { op = operation_of w; constant = bit w 23; mode = bits w 20 18; result = bits w 17 12; b = bits w 11 6; a = bits w 5 0 }
 
 -- a word by its class
-abbrev pub operandsOf : Class → ℕ → Operands
-operandsOf class.Multiply w = operands.Multiply (record { 0 = w })
-operandsOf class.Legacy w = operands.Legacy (record { 0 = w })
-operandsOf class.SetCounters w = operands.SetCounters (record { 0 = w })
-operandsOf class.AddCounters w = operands.AddCounters (record { 0 = w })
-operandsOf class.ZeroSrc w = operands.ZeroSrc (record { 0 = w })
-operandsOf class.ShiftA w = operands.ShiftA (record { 0 = w })
-operandsOf class.ShiftB w = operands.ShiftB (record { 0 = w })
-operandsOf class.NoEffect w = operands.NoEffect
-operandsOf class.Scalar w = operands.Scalar (record { 0 = w })
+abbrev pub operands_of : Class → ℕ → Operands
+operands_of class.Multiply w = operands.Multiply (record { 0 = w })
+operands_of class.Legacy w = operands.Legacy (record { 0 = w })
+operands_of class.SetCounters w = operands.SetCounters (record { 0 = w })
+operands_of class.AddCounters w = operands.AddCounters (record { 0 = w })
+operands_of class.ZeroSrc w = operands.ZeroSrc (record { 0 = w })
+operands_of class.ShiftA w = operands.ShiftA (record { 0 = w })
+operands_of class.ShiftB w = operands.ShiftB (record { 0 = w })
+operands_of class.NoEffect w = operands.NoEffect
+operands_of class.Scalar w = operands.Scalar (record { 0 = w })

@@ -1,6 +1,6 @@
 // A word's class, and the fields of a word by its class.
 ghost use Rattle.std.specs.Prelude.{◌≡◌};
-ghost use Rattle.word.specs.Operands.{clearOf, whichOf, heightOf, multiplySlot, multiplyOf, legacyOf, setCountersOf, addCountersOf, zeroSrcOf, shiftAOf, shiftBOf, operationOf, scalarOf, operandsOf};
+ghost use Rattle.word.specs.Operands.{clear_of, which_of, height_of, multiply_slot, multiply_of, legacy_of, set_counters_of, add_counters_of, zero_src_of, shift_aOf, shift_bOf, operation_of, scalar_of, operands_of};
 
 use crate::{
     AddCounters, AddCountersWord, Class, Clear, Height, Legacy, LegacyWord, Multiply, MultiplyWord,
@@ -9,7 +9,7 @@ use crate::{
 };
 
 fn clear_of(w: u32) -> Clear
-    ensures { result ≡ clearOf w }
+    ensures { result ≡ clear_of w }
 {
     Clear {
         a: (w >> 22) % 2 == 1,
@@ -18,7 +18,7 @@ fn clear_of(w: u32) -> Clear
 }
 
 fn which_of(w: u32) -> Which
-    ensures { result ≡ whichOf w }
+    ensures { result ≡ which_of w }
 {
     Which {
         a: w % 2 == 1,
@@ -29,7 +29,7 @@ fn which_of(w: u32) -> Which
 }
 
 fn height_of(w: u32) -> Height
-    ensures { result ≡ heightOf w }
+    ensures { result ≡ height_of w }
 {
     if (w >> 24) % 256 == 0x34 {
         return Height::Four;
@@ -38,7 +38,7 @@ fn height_of(w: u32) -> Height
 }
 
 fn operation_of(w: u32) -> Operation
-    ensures { result ≡ operationOf w }
+    ensures { result ≡ operation_of w }
 {
     if (w >> 24) % 256 == 0x5B {
         return Operation::Bitwise;
@@ -50,7 +50,7 @@ fn operation_of(w: u32) -> Operation
 }
 
 fn multiply_slot(height: Height, w: u32) -> u32
-    ensures { result ≡ multiplySlot height w }
+    ensures { result ≡ multiply_slot height w }
 {
     match height {
         Height::Eight => (w >> 14) % 4,
@@ -60,7 +60,7 @@ fn multiply_slot(height: Height, w: u32) -> u32
 
 impl MultiplyWord {
     pub fn fields(self) -> Multiply
-        ensures { result ≡ multiplyOf self }
+        ensures { result ≡ multiply_of self }
     {
         let w = self.0;
         let height = height_of(w);
@@ -77,7 +77,7 @@ impl MultiplyWord {
 
 impl LegacyWord {
     pub fn fields(self) -> Legacy
-        ensures { result ≡ legacyOf self }
+        ensures { result ≡ legacy_of self }
     {
         let w = self.0;
         let clear = clear_of(w);
@@ -90,7 +90,7 @@ impl LegacyWord {
 
 impl SetCountersWord {
     pub fn fields(self) -> SetCounters
-        ensures { result ≡ setCountersOf self }
+        ensures { result ≡ set_counters_of self }
     {
         let w = self.0;
         let clear = clear_of(w);
@@ -108,7 +108,7 @@ impl SetCountersWord {
 
 impl AddCountersWord {
     pub fn fields(self) -> AddCounters
-        ensures { result ≡ addCountersOf self }
+        ensures { result ≡ add_counters_of self }
     {
         let w = self.0;
         AddCounters {
@@ -122,7 +122,7 @@ impl AddCountersWord {
 
 impl ZeroSrcWord {
     pub fn fields(self) -> ZeroSrc
-        ensures { result ≡ zeroSrcOf self }
+        ensures { result ≡ zero_src_of self }
     {
         let w = self.0;
         ZeroSrc {
@@ -137,7 +137,7 @@ impl ZeroSrcWord {
 
 impl ShiftAWord {
     pub fn mode(self) -> u32
-        ensures { result ≡ shiftAOf self }
+        ensures { result ≡ shift_aOf self }
     {
         self.0 % 4
     }
@@ -145,7 +145,7 @@ impl ShiftAWord {
 
 impl ShiftBWord {
     pub fn fields(self) -> ShiftB
-        ensures { result ≡ shiftBOf self }
+        ensures { result ≡ shift_bOf self }
     {
         let w = self.0;
         ShiftB {
@@ -158,7 +158,7 @@ impl ShiftBWord {
 
 impl ScalarWord {
     pub fn fields(self) -> Scalar
-        ensures { result ≡ scalarOf self }
+        ensures { result ≡ scalar_of self }
     {
         let w = self.0;
         let op = operation_of(w);
@@ -174,7 +174,7 @@ impl ScalarWord {
 }
 
 pub(crate) fn operands_of(class: Class, w: u32) -> Operands
-    ensures { result ≡ operandsOf class w }
+    ensures { result ≡ operands_of class w }
 {
     match class {
         Class::Multiply => Operands::Multiply(MultiplyWord(w)),

@@ -1,6 +1,6 @@
 // The refusals' numbers, and the bit of refusal 3.
 ghost use Rattle.std.specs.Prelude.{◌≡◌};
-ghost use Rattle.word.specs.Refusal.{number_of, bit_of, bitNumber};
+ghost use Rattle.word.specs.Refusal.{number_of, bit_of, bit_number};
 
 use crate::Refusal;
 
@@ -23,7 +23,7 @@ pub fn number(refusal: Refusal) -> u8
 
 // The bit of refusal 3, the lowest that is 1 and not named; 0 of any other.
 pub fn bit(refusal: Refusal) -> u8
-    ensures { result ≡ bitNumber (bit_of refusal) }
+    ensures { result ≡ bit_number (bit_of refusal) }
 {
     match refusal {
         Refusal::StateLength => 0,

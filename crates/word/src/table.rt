@@ -1,7 +1,7 @@
 // The table of twenty, in the paper's order.
 ghost use Rattle.std.specs.Prelude.{◌≡◌};
 ghost use Rattle.word.specs.Table.{table, lookup};
-ghost use Rattle.word.specs.Entries.{foundOf, masked, maskedBit};
+ghost use Rattle.word.specs.Entries.{found_of, masked, masked_bit};
 
 use crate::Class;
 
@@ -43,7 +43,7 @@ pub(crate) enum Found {
 
 // The arms stand in the table's order. Each names its row by a fixed place, so nothing of the table is laid out when this runs.
 pub(crate) fn find(opcode: u32) -> Found
-    ensures { result ≡ foundOf (lookup table opcode) }
+    ensures { result ≡ found_of (lookup table opcode) }
 {
     let rows = TABLE;
     match opcode {
@@ -81,7 +81,7 @@ pub(crate) fn allows(allowed: u32, w: u32) -> bool
 
 // The lowest of the low 24 bits that is 1 and not allowed to be; 32 where each is allowed.
 pub(crate) fn lowest_stray(allowed: u32, w: u32) -> u8
-    ensures { result ≡ maskedBit w allowed }
+    ensures { result ≡ masked_bit w allowed }
 {
     let low = w % 0x1000000;
     u32::trailing_zeros(low - (low & allowed)) as u8

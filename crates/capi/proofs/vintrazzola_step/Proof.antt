@@ -2,7 +2,7 @@
 use mathlib.Core.Path.{sym, ap, ◌∙◌}
 use borrow.Author.Rules.{rules}
 use Rattle.cells.specs.State.{state}
-use Rattle.rules.specs.Rules.{verdictAnswer}
+use Rattle.rules.specs.Rules.{verdict_answer}
 use Rattle.rules.specs.declared.Verdict.{Verdict}
 use Rattle.capi.specs.Packed.{packed}
 use Rattle.capi.proofs.Steps.{Did, did}
@@ -69,7 +69,7 @@ same-length-10 : tie.Need-same-length-10
 same-length-10 c = search rules
 
 returns-2 : tie.Need-returns-2
-returns-2 c = let g = given c.before.before.before.before.before.before.before.before.before.before.before.before.before.before.before in let d = c.before.before.before.before.before.enum_told.given.1 in (sym (ap (λ (v : Verdict). packed (verdictAnswer v)) d) ∙ ap packed g.answer, g.state, c.before.before.write-but-slots.ensures ∙ g.done d)
+returns-2 c = let g = given c.before.before.before.before.before.before.before.before.before.before.before.before.before.before.before in let d = c.before.before.before.before.before.enum_told.given.1 in (sym (ap (λ (v : Verdict). packed (verdict_answer v)) d) ∙ ap packed g.answer, g.state, c.before.before.write-but-slots.ensures ∙ g.done d)
 
 pub vintrazzola-step-spec : {M : Type 1} → statement M
 vintrazzola-step-spec =

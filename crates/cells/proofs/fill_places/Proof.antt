@@ -1,13 +1,13 @@
 -- `cells::fill_places` meets its contract: the parts of its width are filled one after the other. Assumes nothing.
-use Rattle.cells.proofs.Parts.{by_whole, by-halves}
-use Rattle.cells.proofs.Places.{at-between-none}
+use Rattle.cells.proofs.Parts.{by_whole, by_halves}
+use Rattle.cells.proofs.Places.{at_between_none}
 use mathlib.Core.Path.{sym}
 use borrow.Author.Rules.{rules}
 use Rattle.cells.proofs.fill_places.Statement.{statement}
 use Rattle.cells.proofs.fill_places.Tie as tie
 
 returns : tie.Need-returns
-returns c = let a = c.before.before.args in sym (at-between-none a.width _ a.file.now a.lo a.hi c.if1.true)
+returns c = let a = c.before.before.args in sym (at_between_none a.width _ a.file.now a.lo a.hi c.if1.true)
 
 enum_told : tie.Need-enum-told
 enum_told c = search rules
@@ -35,7 +35,7 @@ same-length-2 c = search rules
 
 returns-3 : tie.Need-returns-3
 returns-3 c = let a = c.before.before.before.before.before.before.before.before.before.before.before.before.args in
-    by-halves a.width a.lo a.hi _ a.file.now _ c.before.before.before.before.before.before.before.before.enum-told2.given.1 _ c.before.before.before.before.before.before.fill2.ensures c.before.before.fill3.ensures
+    by_halves a.width a.lo a.hi _ a.file.now _ c.before.before.before.before.before.before.before.before.enum-told2.given.1 _ c.before.before.before.before.before.before.fill2.ensures c.before.before.fill3.ensures
 
 pub fill-places-spec : {M : Type 1} → statement M
 fill-places-spec =

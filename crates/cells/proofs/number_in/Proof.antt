@@ -3,7 +3,7 @@ use mathlib.Core.Path.{◌≡◌, sym, ap, ◌∙◌}
 use Prim.Native.Nat.{ℕ, ◌-◌, ◌<◌}
 use native.Mathlib.Omega.{arith}
 use Rattle.cells.specs.declared.Part.{Part}
-use Rattle.cells.specs.Parts.{numberIn}
+use Rattle.cells.specs.Parts.{number_in}
 use borrow.Author.Rules.{rules}
 use Rattle.cells.proofs.number_in.Statement.{statement}
 use Rattle.cells.proofs.number_in.Tie as tie
@@ -23,7 +23,7 @@ enum-told-3 c = search rules
 
 returns : tie.Need-returns
 returns c = let a = c.before.before.before.args in
-    none-past a.n a.place c.if1.true ∙ sym (ap (λ (p : Part). numberIn p a.n a.place) c.before.enum-told3.given.1)
+    none-past a.n a.place c.if1.true ∙ sym (ap (λ (p : Part). number_in p a.n a.place) c.before.enum-told3.given.1)
 
 returns-2 : tie.Need-returns-2
 returns-2 c = search rules
@@ -33,7 +33,7 @@ returns-3 c = search rules
 
 returns-4 : tie.Need-returns-4
 returns-4 c = let a = c.before.before.before.args in
-    sym (ap (λ (p : Part). numberIn p a.n a.place) c.before.enum-told3.given.1)
+    sym (ap (λ (p : Part). number_in p a.n a.place) c.before.enum-told3.given.1)
 
 pub number-in-spec : {M : Type 1} → statement M
 number-in-spec =

@@ -1,7 +1,7 @@
 -- `cells::with_part` meets its contract, part by part. Assumes nothing.
 use mathlib.Core.Path.{sym, ap}
 use Rattle.cells.specs.declared.Part.{Part}
-use Rattle.cells.specs.Parts.{withPart}
+use Rattle.cells.specs.Parts.{with_part}
 use borrow.Author.Rules.{rules}
 use Rattle.cells.proofs.with_part.Statement.{statement}
 use Rattle.cells.proofs.with_part.Tie as tie
@@ -31,10 +31,10 @@ returns : tie.Need-returns
 returns c = search rules
 
 returns-2 : tie.Need-returns-2
-returns-2 c = sym (ap (λ (p : Part). withPart p c.before.before.args.number c.before.before.args.value) c.enum-told2.given.1)
+returns-2 c = sym (ap (λ (p : Part). with_part p c.before.before.args.number c.before.before.args.value) c.enum-told2.given.1)
 
 returns-3 : tie.Need-returns-3
-returns-3 c = sym (ap (λ (p : Part). withPart p c.before.before.args.number c.before.before.args.value) c.enum-told3.given.1)
+returns-3 c = sym (ap (λ (p : Part). with_part p c.before.before.args.number c.before.before.args.value) c.enum-told3.given.1)
 
 pub with-part-spec : {M : Type 1} → statement M
 with-part-spec =

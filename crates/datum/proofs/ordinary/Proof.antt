@@ -1,6 +1,6 @@
 -- `datum::ordinary` meets its contract. Assumes nothing.
 use mathlib.Core.Path.{◌∙◌}
-use Rattle.datum.proofs.Places.{zero-at, middle-at}
+use Rattle.datum.proofs.Places.{zero_at, middle_at}
 use mathlib.Core.Bool.{◌||◌}
 use borrow.Author.Rules.{rules}
 use Rattle.datum.proofs.ordinary.Statement.{statement}
@@ -15,7 +15,7 @@ middle-requires c κs = search rules
 returns : tie.Need-returns
 returns c =
     let x = c.before.args.x in
-    λ i. zero-at x i || (c.middle.ensures ∙ middle-at x) i
+    λ i. zero_at x i || (c.middle.ensures ∙ middle_at x) i
 
 pub ordinary-spec : {M : Type 1} → statement M
 ordinary-spec = tie.close (tie.spec mul-e middle-requires returns)

@@ -1,5 +1,5 @@
 -- `lines::checked_text` meets its contract. Assumes nothing.
-use Rattle.lines.specs.Printed.{checkedText}
+use Rattle.lines.specs.Printed.{checked_text}
 use borrow.Author.Rules.{rules}
 use Rattle.lines.proofs.checked_text.Statement.{statement}
 use Rattle.lines.proofs.checked_text.Tie as tie
@@ -17,11 +17,11 @@ refused-text-requires : tie.Need-refused-text-requires
 refused-text-requires c κs = search rules
 
 returns : tie.Need-returns
-unfolding checkedText
+unfolding checked_text
 returns c = rw c.before.before.checked.given.1 c.passed-text.ensures
 
 returns-2 : tie.Need-returns-2
-unfolding checkedText
+unfolding checked_text
 returns-2 c = rw c.before.before.checked2.given.1 c.refused-text.ensures
 
 pub checked-text-spec : {M : Type 1} → statement M

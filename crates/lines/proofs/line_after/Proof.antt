@@ -1,5 +1,5 @@
 -- `lines::line_after` meets its contract. Assumes nothing.
-use Rattle.lines.proofs.Giving.{told_line, told-last}
+use Rattle.lines.proofs.Giving.{told_line, told_last}
 use borrow.Author.Rules.{rules}
 use Rattle.lines.proofs.line_after.Statement.{statement}
 use Rattle.lines.proofs.line_after.Tie as tie
@@ -23,7 +23,7 @@ returns : tie.Need-returns
 returns c = told_line _ _ _ _ _ _ _ _ c.before.before.found.given.1 c.before.before.before.before.next-line.ensures c.line-text.ensures.0 c.line-text.ensures.1
 
 returns-2 : tie.Need-returns-2
-returns-2 c = told-last _ _ _ _ _ c.before.enum_told.given.1 c.before.before.before.next-line.ensures _ c.end.ensures
+returns-2 c = told_last _ _ _ _ _ c.before.enum_told.given.1 c.before.before.before.next-line.ensures _ c.end.ensures
 
 pub line-after-spec : {M : Type 1} → statement M
 line-after-spec =

@@ -6,27 +6,27 @@ use native.Mathlib.Omega.{arith}
 use borrow.Author.Tests.{not-false}
 use Rattle.rules.proofs.ByCore.{leaves}
 use Rattle.word.specs.declared.Read.{Read}
-use Rattle.rules.specs.Rules.{lowest, readVerdict}
-use Rattle.walk.specs.FieldRecord.{fieldControl}
+use Rattle.rules.specs.Rules.{lowest, read_verdict}
+use Rattle.walk.specs.FieldRecord.{field_control}
 use Rattle.walk.proofs.Advanced.{advanced}
 use Rattle.control.specs.Halves.{joined}
-use Rattle.job.specs.Settings.{choicesIn}
-use Rattle.job.proofs.Halves.{settled_on, start-on}
-use Rattle.job.proofs.Walk.{next-after}
-use Rattle.precheck.specs.Marks.{unsetBut}
-use Rattle.precheck.specs.Judging.{fieldRules}
-use Rattle.precheck.specs.Marking.{fieldMarks}
-use Rattle.precheck.specs.Check.{unlessBroken}
+use Rattle.job.specs.Settings.{choices_in}
+use Rattle.job.proofs.Halves.{settled_on, start_on}
+use Rattle.job.proofs.Walk.{next_after}
+use Rattle.precheck.specs.Marks.{unset_but}
+use Rattle.precheck.specs.Judging.{field_rules}
+use Rattle.precheck.specs.Marking.{field_marks}
+use Rattle.precheck.specs.Check.{unless_broken}
 use Rattle.precheck.specs.declared.Checked.TheVariants.{Passed}
-use Rattle.precheck.proofs.Judged.{unread, rules-by}
-use Rattle.precheck.proofs.Checking.{Checking, checking-first, checking-end, turn-stop, turn_on, issue-on}
+use Rattle.precheck.proofs.Judged.{unread, rules_by}
+use Rattle.precheck.proofs.Checking.{Checking, checking_first, checking_end, turn_stop, turn_on, issue_on}
 use borrow.Author.Rules.{rules}
 use Rattle.precheck.proofs.check_from.Statement.{statement}
 use Rattle.precheck.proofs.check_from.Tie as tie
 
 abbrev invariant-loop : tie.invariant-loop
 invariant-loop job dst₀ srca₀ srcb₀ registers₀ k₀ fixed₀ count₀ at₀ dst srca srcb registers k fixed count at =
-    Checking job dst₀ srca srcb dst registers (joined k (choicesIn fixed)) count at
+    Checking job dst₀ srca srcb dst registers (joined k (choices_in fixed)) count at
 
 abbrev decreases-loop : tie.decreases-loop
 decreases-loop job dst₀ srca₀ srcb₀ registers₀ k₀ fixed₀ count₀ at₀ dst srca srcb registers k fixed count at =
@@ -36,8 +36,8 @@ start-core-requires : tie.Need-start-core-requires invariant-loop decreases-loop
 start-core-requires c κs = search rules
 
 loop-holds : tie.Need-loop-init invariant-loop decreases-loop
-unfolding unsetBut
-loop-holds c = checking-first _ _ _ _ _ _ (start-on c.start-core.ensures) refl
+unfolding unset_but
+loop-holds c = checking_first _ _ _ _ _ _ (start_on c.start-core.ensures) refl
 
 field-at-requires : tie.Need-field-at-requires invariant-loop decreases-loop
 field-at-requires c κs = search rules
@@ -73,8 +73,8 @@ same_length : tie.Need-same-length invariant-loop decreases-loop
 same_length c = c.before.before.before.before.before.before.before.before.before.loop.invariant.long
 
 returns : tie.Need-returns invariant-loop decreases-loop
-returns c = c.unread.ensures ∙ ap (λ (x : Read). unlessBroken (readVerdict x) c.before.before.before.before.before.before.before.field_at.result.place (Passed 0)) c.before.enum-told2.given.1
-    ∙ turn-stop _ _ _ _ _ _ _ _ _ c.before.before.before.before.before.before.before.before.before.loop.invariant _ c.before.before.before.before.before.before.before.before.loop-test.true c.before.before.before.before.before.before.before.field_at.ensures.0 _ c.before.before.before.before.before.kind.given.1 _ (unread _ _ _ _ c.before.before.before.read_word.ensures.0 c.before.enum-told2.given.1)
+returns c = c.unread.ensures ∙ ap (λ (x : Read). unless_broken (read_verdict x) c.before.before.before.before.before.before.before.field_at.result.place (Passed 0)) c.before.enum-told2.given.1
+    ∙ turn_stop _ _ _ _ _ _ _ _ _ c.before.before.before.before.before.before.before.before.before.loop.invariant _ c.before.before.before.before.before.before.before.before.loop-test.true c.before.before.before.before.before.before.before.field_at.ensures.0 _ c.before.before.before.before.before.kind.given.1 _ (unread _ _ _ _ c.before.before.before.read_word.ensures.0 c.before.enum-told2.given.1)
 
 check-operands-requires : tie.Need-check-operands-requires invariant-loop decreases-loop
 check-operands-requires c κs = search rules
@@ -86,7 +86,7 @@ same-length-2 : tie.Need-same-length-2 invariant-loop decreases-loop
 same-length-2 c = c.before.before.before.before.before.before.before.before.before.before.before.before.before.before.before.before.before.loop.invariant.long
 
 returns-2 : tie.Need-returns-2 invariant-loop decreases-loop
-returns-2 c = turn-stop _ _ _ _ _ _ _ _ _ c.before.before.before.before.before.before.before.before.before.before.before.before.before.before.before.before.before.loop.invariant _ c.before.before.before.before.before.before.before.before.before.before.before.before.before.before.before.before.loop-test.true c.before.before.before.before.before.before.before.before.before.before.before.before.before.before.before.field_at.ensures.0 _ c.before.before.before.before.before.before.before.before.before.before.before.before.before.kind.given.1 _ (rules-by _ _ _ _ c.before.before.before.before.before.before.before.before.before.before.before.read_word.ensures.0 c.before.before.before.before.before.before.before.before.before.read.given.1 (c.before.before.before.check-operands.ensures (choicesIn c.before.before.before.before.before.before.before.before.before.before.before.before.before.before.before.before.before.loop.fixed)).verdict ∙ c.before.verdict.given.1)
+returns-2 c = turn_stop _ _ _ _ _ _ _ _ _ c.before.before.before.before.before.before.before.before.before.before.before.before.before.before.before.before.before.loop.invariant _ c.before.before.before.before.before.before.before.before.before.before.before.before.before.before.before.before.loop-test.true c.before.before.before.before.before.before.before.before.before.before.before.before.before.before.before.field_at.ensures.0 _ c.before.before.before.before.before.before.before.before.before.before.before.before.before.kind.given.1 _ (rules_by _ _ _ _ c.before.before.before.before.before.before.before.before.before.before.before.read_word.ensures.0 c.before.before.before.before.before.before.before.before.before.read.given.1 (c.before.before.before.check-operands.ensures (choices_in c.before.before.before.before.before.before.before.before.before.before.before.before.before.before.before.before.before.loop.fixed)).verdict ∙ c.before.verdict.given.1)
 
 enum-told-3 : tie.Need-enum-told-3 invariant-loop decreases-loop
 enum-told-3 c = search rules
@@ -131,8 +131,8 @@ same-length-3 : tie.Need-same-length-3 invariant-loop decreases-loop
 same-length-3 c = c.before.before.before.before.before.before.before.before.before.loop.invariant.long
 
 returns-3 : tie.Need-returns-3 invariant-loop decreases-loop
-unfolding fieldRules
-returns-3 c = turn-stop _ _ _ _ _ _ _ _ _ c.before.before.before.before.before.before.before.before.before.loop.invariant _ c.before.before.before.before.before.before.before.before.loop-test.true c.before.before.before.before.before.before.before.field_at.ensures.0 _ c.before.before.before.before.before.kind2.given.1 _ (sym (c.before.before.before.judge-bank.ensures (choicesIn c.before.before.before.before.before.before.before.before.before.loop.fixed)) ∙ c.before.verdict2.given.1)
+unfolding field_rules
+returns-3 c = turn_stop _ _ _ _ _ _ _ _ _ c.before.before.before.before.before.before.before.before.before.loop.invariant _ c.before.before.before.before.before.before.before.before.loop-test.true c.before.before.before.before.before.before.before.field_at.ensures.0 _ c.before.before.before.before.before.kind2.given.1 _ (sym (c.before.before.before.judge-bank.ensures (choices_in c.before.before.before.before.before.before.before.before.before.loop.fixed)) ∙ c.before.verdict2.given.1)
 
 enum-told-4 : tie.Need-enum-told-4 invariant-loop decreases-loop
 enum-told-4 c = search rules
@@ -153,8 +153,8 @@ same-length-4 : tie.Need-same-length-4 invariant-loop decreases-loop
 same-length-4 c = c.before.before.before.before.before.check-write.auto.1.1.1.1.0 ∙ c.before.before.before.before.before.before.before.before.before.before.before.before.before.before.before.loop.invariant.long
 
 returns-4 : tie.Need-returns-4 invariant-loop decreases-loop
-unfolding fieldRules
-returns-4 c = turn-stop _ _ _ _ _ _ _ _ _ c.before.before.before.before.before.before.before.before.before.before.before.before.before.before.before.loop.invariant _ c.before.before.before.before.before.before.before.before.before.before.before.before.before.before.loop-test.true c.before.before.before.before.before.before.before.before.before.before.before.before.before.field_at.ensures.0 _ c.before.before.before.before.before.before.before.before.before.before.before.kind3.given.1 _ (sym (c.before.before.before.before.before.check-write.ensures (choicesIn c.before.before.before.before.before.before.before.before.before.before.before.before.before.before.before.loop.fixed)).0 ∙ c.before.verdict3.given.1)
+unfolding field_rules
+returns-4 c = turn_stop _ _ _ _ _ _ _ _ _ c.before.before.before.before.before.before.before.before.before.before.before.before.before.before.before.loop.invariant _ c.before.before.before.before.before.before.before.before.before.before.before.before.before.before.loop-test.true c.before.before.before.before.before.before.before.before.before.before.before.before.before.field_at.ensures.0 _ c.before.before.before.before.before.before.before.before.before.before.before.kind3.given.1 _ (sym (c.before.before.before.before.before.check-write.ensures (choices_in c.before.before.before.before.before.before.before.before.before.before.before.before.before.before.before.loop.fixed)).0 ∙ c.before.verdict3.given.1)
 
 enum-told-5 : tie.Need-enum-told-5 invariant-loop decreases-loop
 enum-told-5 c = search rules
@@ -172,8 +172,8 @@ same-length-5 : tie.Need-same-length-5 invariant-loop decreases-loop
 same-length-5 c = c.before.before.before.before.before.before.before.before.before.before.before.loop.invariant.long
 
 returns-5 : tie.Need-returns-5 invariant-loop decreases-loop
-unfolding fieldRules
-returns-5 c = turn-stop _ _ _ _ _ _ _ _ _ c.before.before.before.before.before.before.before.before.before.before.before.loop.invariant _ c.before.before.before.before.before.before.before.before.before.before.loop-test.true c.before.before.before.before.before.before.before.before.before.field_at.ensures.0 _ c.before.before.before.before.before.before.before.kind4.given.1 _ (sym (c.before.before.before.judge-output.ensures _ _) ∙ c.before.verdict4.given.1)
+unfolding field_rules
+returns-5 c = turn_stop _ _ _ _ _ _ _ _ _ c.before.before.before.before.before.before.before.before.before.before.before.loop.invariant _ c.before.before.before.before.before.before.before.before.before.before.loop-test.true c.before.before.before.before.before.before.before.before.before.field_at.ensures.0 _ c.before.before.before.before.before.before.before.kind4.given.1 _ (sym (c.before.before.before.judge-output.ensures _ _) ∙ c.before.verdict4.given.1)
 
 enum-told-6 : tie.Need-enum-told-6 invariant-loop decreases-loop
 enum-told-6 c = search rules
@@ -182,64 +182,64 @@ enum-told-7 : tie.Need-enum-told-7 invariant-loop decreases-loop
 enum-told-7 c = search rules
 
 loop-less : tie.Need-loop-smaller invariant-loop decreases-loop
-loop-less c = omega (arith, next-after _ _ _ c.before.before.before.before.before.before.loop-test.true c.before.before.before.before.before.field_at.ensures.0, c.before.before.before.before.before.before.loop-test.true)
+loop-less c = omega (arith, next_after _ _ _ c.before.before.before.before.before.before.loop-test.true c.before.before.before.before.before.field_at.ensures.0, c.before.before.before.before.before.before.loop-test.true)
 
 loop-again : tie.Need-loop-preserved invariant-loop decreases-loop
-unfolding fieldRules fieldControl fieldMarks lowest
+unfolding field_rules field_control field_marks lowest
 loop-again c = turn_on _ _ _ _ _ _ _ _ _ c.before.before.before.before.before.before.before.loop.invariant _ c.before.before.before.before.before.before.loop-test.true c.before.before.before.before.before.field_at.ensures.0 _ c.before.before.before.enum_told.given.1 refl (settled_on _ _ _ c.before.settle.ensures c.settings-bytes.ensures c.before.before.payload-at.ensures) refl refl (omega arith)
 
 loop-less-2 : tie.Need-loop-smaller-2 invariant-loop decreases-loop
-loop-less-2 c = omega (arith, next-after _ _ _ c.before.before.before.before.before.before.before.before.before.before.before.before.before.before.before.before.before.before.before.before.before.before.before.before.before.loop-test.true c.before.before.before.before.before.before.before.before.before.before.before.before.before.before.before.before.before.before.before.before.before.before.before.before.field_at.ensures.0, c.before.before.before.before.before.before.before.before.before.before.before.before.before.before.before.before.before.before.before.before.before.before.before.before.before.loop-test.true)
+loop-less-2 c = omega (arith, next_after _ _ _ c.before.before.before.before.before.before.before.before.before.before.before.before.before.before.before.before.before.before.before.before.before.before.before.before.before.loop-test.true c.before.before.before.before.before.before.before.before.before.before.before.before.before.before.before.before.before.before.before.before.before.before.before.before.field_at.ensures.0, c.before.before.before.before.before.before.before.before.before.before.before.before.before.before.before.before.before.before.before.before.before.before.before.before.before.loop-test.true)
 
 loop-again-2 : tie.Need-loop-preserved-2 invariant-loop decreases-loop
-loop-again-2 c = issue-on _ _ _ _ _ _ _ _ _ c.before.before.before.before.before.before.before.before.before.before.before.before.before.before.before.before.before.before.before.before.before.before.before.before.before.before.loop.invariant _ c.before.before.before.before.before.before.before.before.before.before.before.before.before.before.before.before.before.before.before.before.before.before.before.before.before.loop-test.true c.before.before.before.before.before.before.before.before.before.before.before.before.before.before.before.before.before.before.before.before.before.before.before.before.field_at.ensures.0 _ _ c.before.before.before.before.before.before.before.before.before.before.before.before.before.before.before.before.before.before.before.before.before.before.kind.given.1
+loop-again-2 c = issue_on _ _ _ _ _ _ _ _ _ c.before.before.before.before.before.before.before.before.before.before.before.before.before.before.before.before.before.before.before.before.before.before.before.before.before.before.loop.invariant _ c.before.before.before.before.before.before.before.before.before.before.before.before.before.before.before.before.before.before.before.before.before.before.before.before.before.loop-test.true c.before.before.before.before.before.before.before.before.before.before.before.before.before.before.before.before.before.before.before.before.before.before.before.before.field_at.ensures.0 _ _ c.before.before.before.before.before.before.before.before.before.before.before.before.before.before.before.before.before.before.before.before.before.before.kind.given.1
     c.before.before.before.before.before.before.before.before.before.before.before.before.before.before.before.before.before.before.before.before.read_word.ensures.0 c.before.before.before.before.before.before.before.before.before.before.before.before.before.before.before.before.before.before.read.given.1
-    (c.before.before.before.before.before.before.before.before.before.before.before.before.check-operands.ensures (choicesIn c.before.before.before.before.before.before.before.before.before.before.before.before.before.before.before.before.before.before.before.before.before.before.before.before.before.before.loop.fixed)) c.before.before.before.before.before.before.before.before.before.before.enum-told3.given.1
+    (c.before.before.before.before.before.before.before.before.before.before.before.before.check-operands.ensures (choices_in c.before.before.before.before.before.before.before.before.before.before.before.before.before.before.before.before.before.before.before.before.before.before.before.before.before.before.loop.fixed)) c.before.before.before.before.before.before.before.before.before.before.enum-told3.given.1
     (advanced c.before.before.before.before.before.before.before.before.before.before.before.before.before.before.before.before.before.before.before.before.before.before.before.before.before.before.loop.k c.before.before.before.before.before.before.before.before.before.before.before.before.before.before.before.before.before.before.before.before.before.before.before.before.before.before.loop.fixed c.before.before.before.before.before.before.before.before.before.before.before.before.before.before.before.before.before.before.before.before.before.before.kind.given.0.0 c.before.before.before.before.before.before.before.before.before.before.before.before.before.before.before.before.before.before.read.given.0.0
     c.before.before.before.before.before.before.slot-number.ensures c.before.before.before.before.before.slot_at.ensures c.before.before.before.before.own_at.ensures c.before.before.before.own-after.ensures c.before.before.clear-by.ensures c.before.last-after.ensures c.core-with.ensures)
 
 loop-less-3 : tie.Need-loop-smaller-3 invariant-loop decreases-loop
-loop-less-3 c = omega (arith, next-after _ _ _ c.before.before.before.before.before.before.before.before.before.before.before.before.before.before.before.before.before.loop-test.true c.before.before.before.before.before.before.before.before.before.before.before.before.before.before.before.before.field_at.ensures.0, c.before.before.before.before.before.before.before.before.before.before.before.before.before.before.before.before.before.loop-test.true)
+loop-less-3 c = omega (arith, next_after _ _ _ c.before.before.before.before.before.before.before.before.before.before.before.before.before.before.before.before.before.loop-test.true c.before.before.before.before.before.before.before.before.before.before.before.before.before.before.before.before.field_at.ensures.0, c.before.before.before.before.before.before.before.before.before.before.before.before.before.before.before.before.before.loop-test.true)
 
 loop-again-3 : tie.Need-loop-preserved-3 invariant-loop decreases-loop
-loop-again-3 c = issue-on _ _ _ _ _ _ _ _ _ c.before.before.before.before.before.before.before.before.before.before.before.before.before.before.before.before.before.before.loop.invariant _ c.before.before.before.before.before.before.before.before.before.before.before.before.before.before.before.before.before.loop-test.true c.before.before.before.before.before.before.before.before.before.before.before.before.before.before.before.before.field_at.ensures.0 _ _ c.before.before.before.before.before.before.before.before.before.before.before.before.before.before.kind.given.1
+loop-again-3 c = issue_on _ _ _ _ _ _ _ _ _ c.before.before.before.before.before.before.before.before.before.before.before.before.before.before.before.before.before.before.loop.invariant _ c.before.before.before.before.before.before.before.before.before.before.before.before.before.before.before.before.before.loop-test.true c.before.before.before.before.before.before.before.before.before.before.before.before.before.before.before.before.field_at.ensures.0 _ _ c.before.before.before.before.before.before.before.before.before.before.before.before.before.before.kind.given.1
     c.before.before.before.before.before.before.before.before.before.before.before.before.read_word.ensures.0 c.before.before.before.before.before.before.before.before.before.before.read.given.1
-    (c.before.before.before.before.check-operands.ensures (choicesIn c.before.before.before.before.before.before.before.before.before.before.before.before.before.before.before.before.before.before.loop.fixed)) c.before.before.enum-told3.given.1 (sym (leaves _ _ _ (sym c.before.leaves-record.ensures ∙ not-false _ c.if1.false)))
+    (c.before.before.before.before.check-operands.ensures (choices_in c.before.before.before.before.before.before.before.before.before.before.before.before.before.before.before.before.before.before.loop.fixed)) c.before.before.enum-told3.given.1 (sym (leaves _ _ _ (sym c.before.leaves-record.ensures ∙ not-false _ c.if1.false)))
 
 loop-less-4 : tie.Need-loop-smaller-4 invariant-loop decreases-loop
-loop-less-4 c = omega (arith, next-after _ _ _ c.before.before.before.before.before.before.before.before.loop-test.true c.before.before.before.before.before.before.before.field_at.ensures.0, c.before.before.before.before.before.before.before.before.loop-test.true)
+loop-less-4 c = omega (arith, next_after _ _ _ c.before.before.before.before.before.before.before.before.loop-test.true c.before.before.before.before.before.before.before.field_at.ensures.0, c.before.before.before.before.before.before.before.before.loop-test.true)
 
 loop-again-4 : tie.Need-loop-preserved-4 invariant-loop decreases-loop
-unfolding fieldRules fieldControl fieldMarks lowest
-loop-again-4 c = turn_on _ _ _ _ _ _ _ _ _ c.before.before.before.before.before.before.before.before.before.loop.invariant _ c.before.before.before.before.before.before.before.before.loop-test.true c.before.before.before.before.before.before.before.field_at.ensures.0 _ c.before.before.before.before.before.kind2.given.1 (sym (c.before.before.before.judge-bank.ensures (choicesIn c.before.before.before.before.before.before.before.before.before.loop.fixed)) ∙ c.before.enum-told4.given.1) (c.hand-over.ensures (choicesIn c.before.before.before.before.before.before.before.before.before.loop.fixed)) refl refl (omega arith)
+unfolding field_rules field_control field_marks lowest
+loop-again-4 c = turn_on _ _ _ _ _ _ _ _ _ c.before.before.before.before.before.before.before.before.before.loop.invariant _ c.before.before.before.before.before.before.before.before.loop-test.true c.before.before.before.before.before.before.before.field_at.ensures.0 _ c.before.before.before.before.before.kind2.given.1 (sym (c.before.before.before.judge-bank.ensures (choices_in c.before.before.before.before.before.before.before.before.before.loop.fixed)) ∙ c.before.enum-told4.given.1) (c.hand-over.ensures (choices_in c.before.before.before.before.before.before.before.before.before.loop.fixed)) refl refl (omega arith)
 
 loop-less-5 : tie.Need-loop-smaller-5 invariant-loop decreases-loop
-loop-less-5 c = omega (arith, next-after _ _ _ c.before.before.before.before.before.before.before.before.before.before.before.before.before.loop-test.true c.before.before.before.before.before.before.before.before.before.before.before.before.field_at.ensures.0, c.before.before.before.before.before.before.before.before.before.before.before.before.before.loop-test.true)
+loop-less-5 c = omega (arith, next_after _ _ _ c.before.before.before.before.before.before.before.before.before.before.before.before.before.loop-test.true c.before.before.before.before.before.before.before.before.before.before.before.before.field_at.ensures.0, c.before.before.before.before.before.before.before.before.before.before.before.before.before.loop-test.true)
 
 loop-again-5 : tie.Need-loop-preserved-5 invariant-loop decreases-loop
-unfolding fieldRules fieldControl fieldMarks lowest
-loop-again-5 c = let written = c.before.before.before.before.check-write.ensures (choicesIn c.before.before.before.before.before.before.before.before.before.before.before.before.before.before.loop.fixed) in
+unfolding field_rules field_control field_marks lowest
+loop-again-5 c = let written = c.before.before.before.before.check-write.ensures (choices_in c.before.before.before.before.before.before.before.before.before.before.before.before.before.before.loop.fixed) in
     turn_on _ _ _ _ _ _ _ _ _ c.before.before.before.before.before.before.before.before.before.before.before.before.before.before.loop.invariant _ c.before.before.before.before.before.before.before.before.before.before.before.before.before.loop-test.true c.before.before.before.before.before.before.before.before.before.before.before.before.field_at.ensures.0 _ c.before.before.before.before.before.before.before.before.before.before.kind3.given.1 (sym written.0 ∙ c.enum-told5.given.1) refl written.1 (c.before.before.before.before.check-write.auto.1.1.1.1.0) (omega arith)
 
 loop-less-6 : tie.Need-loop-smaller-6 invariant-loop decreases-loop
-loop-less-6 c = omega (arith, next-after _ _ _ c.before.before.before.before.before.before.before.before.before.loop-test.true c.before.before.before.before.before.before.before.before.field_at.ensures.0, c.before.before.before.before.before.before.before.before.before.loop-test.true)
+loop-less-6 c = omega (arith, next_after _ _ _ c.before.before.before.before.before.before.before.before.before.loop-test.true c.before.before.before.before.before.before.before.before.field_at.ensures.0, c.before.before.before.before.before.before.before.before.before.loop-test.true)
 
 loop-again-6 : tie.Need-loop-preserved-6 invariant-loop decreases-loop
-unfolding fieldRules fieldControl fieldMarks lowest
+unfolding field_rules field_control field_marks lowest
 loop-again-6 c = turn_on _ _ _ _ _ _ _ _ _ c.before.before.before.before.before.before.before.before.before.before.loop.invariant _ c.before.before.before.before.before.before.before.before.before.loop-test.true c.before.before.before.before.before.before.before.before.field_at.ensures.0 _ c.before.before.before.before.before.before.kind4.given.1 (sym (c.before.before.judge-output.ensures _ _) ∙ c.enum-told6.given.1) refl refl refl (omega arith)
 
 loop-less-7 : tie.Need-loop-smaller-7 invariant-loop decreases-loop
-loop-less-7 c = omega (arith, next-after _ _ _ c.before.before.before.loop-test.true c.before.before.field_at.ensures.0, c.before.before.before.loop-test.true)
+loop-less-7 c = omega (arith, next_after _ _ _ c.before.before.before.loop-test.true c.before.before.field_at.ensures.0, c.before.before.before.loop-test.true)
 
 loop-again-7 : tie.Need-loop-preserved-7 invariant-loop decreases-loop
-unfolding fieldRules fieldControl fieldMarks lowest
+unfolding field_rules field_control field_marks lowest
 loop-again-7 c = turn_on _ _ _ _ _ _ _ _ _ c.before.before.before.before.loop.invariant _ c.before.before.before.loop-test.true c.before.before.field_at.ensures.0 _ c.enum-told7.given.1 refl refl refl refl (omega arith)
 
 same-length-6 : tie.Need-same-length-6 invariant-loop decreases-loop
 same-length-6 c = c.before.loop.invariant.long
 
 returns-6 : tie.Need-returns-6 invariant-loop decreases-loop
-returns-6 c = checking-end _ _ _ _ _ _ _ _ _ c.before.loop.invariant c.loop-test.false
+returns-6 c = checking_end _ _ _ _ _ _ _ _ _ c.before.loop.invariant c.loop-test.false
 
 pub check-from-spec : {M : Type 1} → statement M
 check-from-spec =

@@ -4,8 +4,8 @@ use native.Mathlib.Omega.{arith}
 use lib.Ieee.{binary32, of_bits}
 use Rattle.cells.specs.declared.Part.{Part}
 use Rattle.cells.specs.Parts.{width_in}
-use Rattle.product.specs.Stored.{storedAs}
-use Rattle.product.proofs.Floats.{pattern-back}
+use Rattle.product.specs.Stored.{stored_as}
+use Rattle.product.proofs.Floats.{pattern_back}
 use borrow.Author.Rules.{rules}
 use Rattle.product.proofs.pack.Statement.{statement}
 use Rattle.product.proofs.pack.Tie as tie
@@ -27,15 +27,15 @@ rounded-requires-2 c κs = search rules
 
 returns : tie.Need-returns
 returns c = let b = c.before.before.args.b in
-    pattern-back b (omega arith) (omega arith) ∙ sym (ap (λ (p : Part). storedAs (width_in p) (of_bits binary32 b)) c.enum_told.given.1)
+    pattern_back b (omega arith) (omega arith) ∙ sym (ap (λ (p : Part). stored_as (width_in p) (of_bits binary32 b)) c.enum_told.given.1)
 
 returns-2 : tie.Need-returns-2
 returns-2 c = let b = c.before.before.before.args.b in
-    c.rounded.ensures ∙ sym (ap (λ (p : Part). storedAs (width_in p) (of_bits binary32 b)) c.before.enum-told2.given.1)
+    c.rounded.ensures ∙ sym (ap (λ (p : Part). stored_as (width_in p) (of_bits binary32 b)) c.before.enum-told2.given.1)
 
 returns-3 : tie.Need-returns-3
 returns-3 c = let b = c.before.before.before.args.b in
-    c.rounded2.ensures ∙ sym (ap (λ (p : Part). storedAs (width_in p) (of_bits binary32 b)) c.before.enum-told3.given.1)
+    c.rounded2.ensures ∙ sym (ap (λ (p : Part). stored_as (width_in p) (of_bits binary32 b)) c.before.enum-told3.given.1)
 
 pub pack-spec : {M : Type 1} → statement M
 pack-spec =

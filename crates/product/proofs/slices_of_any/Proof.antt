@@ -4,10 +4,10 @@ use Prim.Native.Nat.{ℕ, ◌+◌, ◌*◌, ◌≤◌, zero-le, ◌-◌}
 use lib.ListN.{length, get_or, length-set}
 use lib.Ieee.{Float, nan}
 use Rattle.cells.specs.Cells.{over, between}
-use Rattle.cells.proofs.Cells.{over-between-none, turn}
+use Rattle.cells.proofs.Cells.{over_between_none, turn}
 use Rattle.datum.specs.Read.{slice_of}
-use Rattle.product.specs.Product.{phaseSlice}
-use Rattle.product.specs.Sums.{slicesOf}
+use Rattle.product.specs.Product.{phase_slice}
+use Rattle.product.specs.Sums.{slices_of}
 use Rattle.product.proofs.Sliced.{number}
 use borrow.Author.Rules.{rules}
 use native.Mathlib.Omega.{arith}
@@ -27,7 +27,7 @@ mul_at : tie.Need-overflow-mul-at invariant-loop decreases-loop
 mul_at c = omega arith
 
 loop-holds : tie.Need-loop-init invariant-loop decreases-loop
-loop-holds c = (refl, zero-le, sym (over-between-none _ nan _ 0))
+loop-holds c = (refl, zero-le, sym (over_between_none _ nan _ 0))
 
 add-x : tie.Need-overflow-add-x invariant-loop decreases-loop
 add-x c = omega arith
@@ -57,7 +57,7 @@ loop-less : tie.Need-loop-smaller invariant-loop decreases-loop
 loop-less c = omega arith
 
 loop-again : tie.Need-loop-preserved invariant-loop decreases-loop
-unfolding phaseSlice
+unfolding phase_slice
 loop-again c =
     let at-loop = c.before.before.before.before in
     let args = at-loop.before.before.before.before.args in
@@ -72,7 +72,7 @@ same_length : tie.Need-same-length invariant-loop decreases-loop
 same_length c = search rules
 
 returns : tie.Need-returns invariant-loop decreases-loop
-unfolding slicesOf
+unfolding slices_of
 returns c =
     let at-loop = c.before in
     let args = at-loop.before.before.before.before.args in

@@ -2,8 +2,8 @@
 use mathlib.Core.Path.{sym, ap, ◌∙◌}
 use native.Mathlib.Omega.{arith}
 use Rattle.cells.specs.declared.Part.{Part}
-use Rattle.cells.specs.Parts.{width_in, heldIn}
-use Rattle.product.specs.Stored.{widePattern}
+use Rattle.cells.specs.Parts.{width_in, held_in}
+use Rattle.product.specs.Stored.{wide_pattern}
 use borrow.Author.Rules.{rules}
 use Rattle.product.proofs.widen.Statement.{statement}
 use Rattle.product.proofs.widen.Tie as tie
@@ -28,11 +28,11 @@ returns c = search rules
 
 returns-2 : tie.Need-returns-2
 returns-2 c = let x = c.before.before.args.number in
-    (omega arith) ∙ sym (ap (λ (p : Part). widePattern (width_in p) (heldIn p x)) c.enum-told2.given.1)
+    (omega arith) ∙ sym (ap (λ (p : Part). wide_pattern (width_in p) (held_in p x)) c.enum-told2.given.1)
 
 returns-3 : tie.Need-returns-3
 returns-3 c = let x = c.before.before.args.number in
-    (omega arith) ∙ sym (ap (λ (p : Part). widePattern (width_in p) (heldIn p x)) c.enum-told3.given.1)
+    (omega arith) ∙ sym (ap (λ (p : Part). wide_pattern (width_in p) (held_in p x)) c.enum-told3.given.1)
 
 pub widen_spec : {M : Type 1} → statement M
 widen_spec =

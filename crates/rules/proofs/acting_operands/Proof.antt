@@ -1,18 +1,18 @@
 -- `rules::acting_operands` meets its contract. Assumes nothing.
 use mathlib.Core.Path.{◌≡◌, sym, ap, ◌∙◌}
-use Rattle.word.specs.Fields.{operandsAnswer, readAnswer}
+use Rattle.word.specs.Fields.{operands_answer, read_answer}
 use Rattle.word.specs.declared.Operands.{Operands}
 use Rattle.word.specs.declared.Read.{Read}
 use Rattle.word.specs.declared.Read.TheVariants as read
-use Rattle.rules.specs.After.{actingOf, actingAnswer}
-use Rattle.rules.proofs.Reading.{acting-numbers}
+use Rattle.rules.specs.After.{acting_of, acting_answer}
+use Rattle.rules.proofs.Reading.{acting_numbers}
 use borrow.Author.Rules.{rules}
 use Rattle.rules.proofs.acting_operands.Statement.{statement}
 use Rattle.rules.proofs.acting_operands.Tie as tie
 
 -- the numbers go by the operands
-told : (r : Read) (f : Operands) → r ≡ read.Operands f → (f ≡ actingOf r) × (operandsAnswer f ≡ actingAnswer (readAnswer r))
-told r f e = let q : f ≡ actingOf r = sym (ap actingOf e) in (q, ap operandsAnswer q ∙ acting-numbers r)
+told : (r : Read) (f : Operands) → r ≡ read.Operands f → (f ≡ acting_of r) × (operands_answer f ≡ acting_answer (read_answer r))
+told r f e = let q : f ≡ acting_of r = sym (ap acting_of e) in (q, ap operands_answer q ∙ acting_numbers r)
 
 enum-known-read : tie.Need-enum-known-read
 enum-known-read c = search rules

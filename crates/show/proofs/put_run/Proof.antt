@@ -1,6 +1,6 @@
 -- `show::put_run` ends: each text that it writes leaves fewer. Assumes nothing.
 use Rattle.lines.proofs.Giving.{fewer}
-use Rattle.lines.specs.Cursor.{printedFrom}
+use Rattle.lines.specs.Cursor.{printed_from}
 use Rattle.cells.specs.State.{state}
 use lib.ListN.{length}
 use mathlib.Core.List.{[]}
@@ -12,7 +12,7 @@ abbrev invariant-loop : tie.invariant-loop
 invariant-loop fd job outcome dst registers c₀ c = Unit {0}
 
 abbrev decreases-loop : tie.decreases-loop
-decreases-loop fd job outcome dst registers c₀ c = length (printedFrom job outcome c (state [] [] dst registers))
+decreases-loop fd job outcome dst registers c₀ c = length (printed_from job outcome c (state [] [] dst registers))
 
 start-requires : tie.Need-start-requires invariant-loop decreases-loop
 start-requires c κs = search rules

@@ -1,5 +1,5 @@
 -- `control::change::apply_slot` meets its contract. Assumes nothing.
-use Rattle.control.specs.Change.{applySlot}
+use Rattle.control.specs.Change.{apply_slot}
 use borrow.Author.Rules.{rules}
 use Rattle.control.proofs.change.apply_slot.Statement.{statement}
 use Rattle.control.proofs.change.apply_slot.Tie as tie
@@ -17,7 +17,7 @@ step-phase-requires : tie.Need-step-phase-requires
 step-phase-requires c κs = search rules
 
 returns : tie.Need-returns
-unfolding applySlot
+unfolding apply_slot
 returns c = λ h. simp (c.step-phase.ensures, c.before.step-src2.ensures, c.before.before.step-src.ensures, c.before.before.before.step-dst.ensures)
 
 pub apply-slot-spec : {M : Type 1} → statement M

@@ -1,6 +1,6 @@
 -- `control::change::hand_over` meets its contract: the bank at the unpackers' pointer gets its owner, and the matrix pointer stays. Assumes nothing.
 use borrow.Author.Rules.{rules}
-use Rattle.control.specs.Change.{handOver}
+use Rattle.control.specs.Change.{hand_over}
 use Rattle.control.proofs.change.hand_over.Statement.{statement}
 use Rattle.control.proofs.change.hand_over.Tie as tie
 
@@ -11,7 +11,7 @@ other-bank-requires : tie.Need-other-bank-requires
 other-bank-requires c κs = search rules
 
 returns : tie.Need-returns
-unfolding handOver
+unfolding hand_over
 returns c = simp (c.other-bank.ensures, c.before.owner-set.ensures)
 
 pub hand-over-spec : {M : Type 1} → statement M

@@ -1,22 +1,22 @@
 -- `control::halves::with_core` meets its contract. Assumes nothing.
-use Rattle.cells.specs.Layout.{threadCount}
-use lib.ListN.{length, length-map}
-use Rattle.control.proofs.Arrays.{getD-in}
+use Rattle.cells.specs.Layout.{thread_count}
+use lib.ListN.{length, length_map}
+use Rattle.control.proofs.Arrays.{get_d_in}
 use Rattle.control.specs.declared.Own.{Own}
 use Rattle.control.specs.declared.Thread.{Thread}
-use Rattle.control.specs.Halves.{choice_of, threadOf, joined}
-use Rattle.control.specs.Record.{startThread}
+use Rattle.control.specs.Halves.{choice_of, thread_of, joined}
+use Rattle.control.specs.Record.{start_thread}
 use native.Mathlib.Omega.{arith}
 use mathlib.Core.Path.{◌≡◌, ◌∙◌, ap}
 use borrow.Author.Rules.{rules}
 use Rattle.control.proofs.halves.with_core.Statement.{statement}
 use Rattle.control.proofs.halves.with_core.Tie as tie
 
-three : (c : tie.Start) → length c.args.c.threads ≡ threadCount
-three c = simp length-map at c.well-formed.0.1.1.1.0.1.0.1
+three : (c : tie.Start) → length c.args.c.threads ≡ thread_count
+three c = simp length_map at c.well-formed.0.1.1.1.0.1.0.1
 
 abbrev with : Own → Thread → Thread
-with o x = threadOf o (choice_of x)
+with o x = thread_of o (choice_of x)
 
 array-copy-out-thread-with : tie.Need-array-copy-out-thread-with
 array-copy-out-thread-with c = search rules
@@ -40,9 +40,9 @@ returns : tie.Need-returns
 unfolding joined
 returns c = let l = c.before.before.before.before.before.before.before.before.before.before.before.before.before.args.c.threads in
     let k = c.before.before.before.before.before.before.before.before.before.before.before.before.before.args.k in
-    let x = c.before.before.before.before.thread-with.ensures ∙ ap (with k.x) (getD-in l _ startThread 0 (omega (arith, three c.before.before.before.before.before.before.before.before.before.before.before.before.before))) in
-    let y = c.before.before.thread-with2.ensures ∙ ap (with k.y) (getD-in l _ startThread 1 (omega (arith, three c.before.before.before.before.before.before.before.before.before.before.before.before.before))) in
-    let z = c.thread-with3.ensures ∙ ap (with k.z) (getD-in l _ startThread 2 (omega (arith, three c.before.before.before.before.before.before.before.before.before.before.before.before.before))) in
+    let x = c.before.before.before.before.thread-with.ensures ∙ ap (with k.x) (get_d_in l _ start_thread 0 (omega (arith, three c.before.before.before.before.before.before.before.before.before.before.before.before.before))) in
+    let y = c.before.before.thread-with2.ensures ∙ ap (with k.y) (get_d_in l _ start_thread 1 (omega (arith, three c.before.before.before.before.before.before.before.before.before.before.before.before.before))) in
+    let z = c.thread-with3.ensures ∙ ap (with k.z) (get_d_in l _ start_thread 2 (omega (arith, three c.before.before.before.before.before.before.before.before.before.before.before.before.before))) in
     simp (x, y, z)
 
 pub with-core-spec : {M : Type 1} → statement M

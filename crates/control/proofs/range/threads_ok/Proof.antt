@@ -2,16 +2,16 @@
 use mathlib.Core.Path.{◌∙◌, ap}
 use mathlib.Core.Bool.{Bool, ◌&&◌}
 use native.Mathlib.Omega.{arith}
-use Rattle.control.specs.Record.{startThread}
-use Rattle.control.specs.Range.{threadOk, threadsOk}
+use Rattle.control.specs.Record.{start_thread}
+use Rattle.control.specs.Range.{thread_ok, threads_ok}
 use Rattle.control.specs.declared.Thread.{Thread}
-use Rattle.control.proofs.Arrays.{getD-in}
+use Rattle.control.proofs.Arrays.{get_d_in}
 use borrow.Author.Rules.{rules}
 use Rattle.control.proofs.range.threads_ok.Statement.{statement}
 use Rattle.control.proofs.range.threads_ok.Tie as tie
 
 abbrev ok : Thread → Bool
-ok x = threadOk x
+ok x = thread_ok x
 
 array-copy-out-x : tie.Need-array-copy-out-x
 array-copy-out-x c = search rules
@@ -32,12 +32,12 @@ thread-ok-requires-3 : tie.Need-thread-ok-requires-3
 thread-ok-requires-3 c κs = search rules
 
 returns : tie.Need-returns
-unfolding threadsOk
+unfolding threads_ok
 returns c =
     let l = c.before.before.before.before.before.before.args.t1 in
-    let x = c.before.before.thread-ok.ensures ∙ ap ok (getD-in l _ startThread 0 (omega arith)) in
-    let y = c.before.thread-ok2.ensures ∙ ap ok (getD-in l _ startThread 1 (omega arith)) in
-    let z = c.thread-ok3.ensures ∙ ap ok (getD-in l _ startThread 2 (omega arith)) in
+    let x = c.before.before.thread-ok.ensures ∙ ap ok (get_d_in l _ start_thread 0 (omega arith)) in
+    let y = c.before.thread-ok2.ensures ∙ ap ok (get_d_in l _ start_thread 1 (omega arith)) in
+    let z = c.thread-ok3.ensures ∙ ap ok (get_d_in l _ start_thread 2 (omega arith)) in
     λ i. (x i && y i) && z i
 
 pub threads-ok-spec : {M : Type 1} → statement M

@@ -4,14 +4,14 @@ use mathlib.Core.Bool.{cond}
 use mathlib.Core.Logic.{⊎_elim}
 use Prim.Native.Nat.{◌+◌, ◌≤◌}
 use native.Mathlib.Omega.{arith}
-use lib.ListN.{length, length-map, get_or-eq_default}
+use lib.ListN.{length, length_map, get_or-eq_default}
 use borrow.Author.Rules.{rules}
-use Rattle.control.specs.Record.{slotCount, zeroSlot}
+use Rattle.control.specs.Record.{slot_count, zero_slot}
 use Rattle.control.proofs.record.slot_used.Statement.{statement}
 use Rattle.control.proofs.record.slot_used.Tie as tie
 
-eight : (c : tie.Start) → length c.args.t1.slots ≡ slotCount
-eight c = simp length-map at c.well-formed.0.1.1.1.1.1.1.1.1.1.0.1.0.1
+eight : (c : tie.Start) → length c.args.t1.slots ≡ slot_count
+eight c = simp length_map at c.well-formed.0.1.1.1.1.1.1.1.1.1.0.1.0.1
 
 place : (c : tie.Joined1) → c.if1.i ≡ cond c.before.args.t1.extra (c.before.args.n + 4) c.before.args.n
 place c = ⊎_elim (λ w. rw w.0.taken w.1) (λ w. rw w.0.left w.1) c.if1.branch
@@ -36,7 +36,7 @@ returns-2 c =
     let met = c.before.before in
     let x = met.before.args.t1 in
     let h : length x.slots ≤ met.if1.i = omega (arith, eight met.before) in
-    c.zero-slot.ensures ∙ sym (get_or-eq_default x.slots zeroSlot h) ∙ simp (place met)
+    c.zero-slot.ensures ∙ sym (get_or-eq_default x.slots zero_slot h) ∙ simp (place met)
 
 pub slot-used-spec : {M : Type 1} → statement M
 slot-used-spec =

@@ -2,16 +2,16 @@
 use mathlib.Core.Path.{◌≡◌, ◌∙◌, sym, ap}
 use Prim.Native.Nat.{ℕ, ◌≤◌}
 use native.Mathlib.Omega.{arith}
-use Rattle.cells.specs.Layout.{threadCount}
-use lib.ListN.{length, get_or, length-map, get_or-eq_default}
-use Rattle.control.specs.Record.{startThread}
-use Rattle.control.proofs.Arrays.{getD-in}
+use Rattle.cells.specs.Layout.{thread_count}
+use lib.ListN.{length, get_or, length_map, get_or-eq_default}
+use Rattle.control.specs.Record.{start_thread}
+use Rattle.control.proofs.Arrays.{get_d_in}
 use borrow.Author.Rules.{rules}
 use Rattle.control.proofs.record.thread_at.Statement.{statement}
 use Rattle.control.proofs.record.thread_at.Tie as tie
 
-three : (c : tie.Start) → length c.args.t1.threads ≡ threadCount
-three c = simp length-map at c.well-formed.0.1.1.1.0.1.0.1
+three : (c : tie.Start) → length c.args.t1.threads ≡ thread_count
+three c = simp length_map at c.well-formed.0.1.1.1.0.1.0.1
 
 element-copy-out-result : tie.Need-element-copy-out-result
 element-copy-out-result c = search rules
@@ -28,24 +28,24 @@ start-thread-requires c κs = search rules
 returns : tie.Need-returns
 returns c =
     let l = c.before.before.args.t1.threads in
-    getD-in l _ startThread 0 (omega (arith, three c.before.before)) ∙ ap (λ (t : ℕ). get_or l t startThread) (sym c.before.match.keys1)
+    get_d_in l _ start_thread 0 (omega (arith, three c.before.before)) ∙ ap (λ (t : ℕ). get_or l t start_thread) (sym c.before.match.keys1)
 
 returns-2 : tie.Need-returns-2
 returns-2 c =
     let l = c.before.before.args.t1.threads in
-    getD-in l _ startThread 1 (omega (arith, three c.before.before)) ∙ ap (λ (t : ℕ). get_or l t startThread) (sym c.before.match.keys2)
+    get_d_in l _ start_thread 1 (omega (arith, three c.before.before)) ∙ ap (λ (t : ℕ). get_or l t start_thread) (sym c.before.match.keys2)
 
 returns-3 : tie.Need-returns-3
 returns-3 c =
     let l = c.before.before.args.t1.threads in
-    getD-in l _ startThread 2 (omega (arith, three c.before.before)) ∙ ap (λ (t : ℕ). get_or l t startThread) (sym c.before.match.keys3)
+    get_d_in l _ start_thread 2 (omega (arith, three c.before.before)) ∙ ap (λ (t : ℕ). get_or l t start_thread) (sym c.before.match.keys3)
 
 returns-4 : tie.Need-returns-4
 returns-4 c =
     let s = c.before.before in
     let r = c.before.match.rest in
     let h : length s.args.t1.threads ≤ s.args.thread = omega (arith, three s, r.1, r.0.1, r.0.0.1) in
-    c.start-thread.ensures ∙ sym (get_or-eq_default s.args.t1.threads startThread h)
+    c.start-thread.ensures ∙ sym (get_or-eq_default s.args.t1.threads start_thread h)
 
 pub thread-at-spec : {M : Type 1} → statement M
 thread-at-spec =

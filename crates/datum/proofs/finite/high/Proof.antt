@@ -5,7 +5,7 @@ use native.Mathlib.Omega.{arith}
 use mathlib.Core.Bool.{Bool}
 use Rattle.datum.specs.Part.{bits_of}
 use Rattle.datum.proofs.Places.{sign_at}
-use Rattle.datum.proofs.Parts.{high-built}
+use Rattle.datum.proofs.Parts.{high_built}
 use borrow.Author.Rules.{rules}
 use Rattle.datum.proofs.finite.high.Statement.{statement}
 use Rattle.datum.proofs.finite.high.Tie as tie
@@ -23,7 +23,7 @@ returns c =
     λ e0 e1.
     let same : (h + k) * 8192 ≡ h / 1024 * 8388608 + k * 8192 = omega arith in
     same
-    ∙ high-built (h / 1024) k (omega arith) e0 e1 (omega arith)
+    ∙ high_built (h / 1024) k (omega arith) e0 e1 (omega arith)
     ∙ ap (λ (s : Bool). bits_of s (1024 + k) (h / 1024 % 256)) (sign_at h (omega arith))
 
 pub high-spec : {M : Type 1} → statement M

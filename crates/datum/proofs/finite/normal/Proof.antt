@@ -5,7 +5,7 @@ use native.Mathlib.Omega.{arith}
 use mathlib.Core.Bool.{Bool}
 use Rattle.datum.specs.Part.{bits_of}
 use Rattle.datum.proofs.Places.{sign_at}
-use Rattle.datum.proofs.LowPart.{in-turn, is_normal, normal-built}
+use Rattle.datum.proofs.LowPart.{in_turn, is_normal, normal_built}
 use borrow.Author.Rules.{rules}
 use Rattle.datum.proofs.finite.normal.Statement.{statement}
 use Rattle.datum.proofs.finite.normal.Tie as tie
@@ -43,9 +43,9 @@ mul-result-2 c = search rules
 sub-result : tie.Need-overflow-sub-result
 sub-result c =
     let a = c.before.before.before.before.before.args in
-    let w = in-turn a.n _ _ _ _ _ c.before.before.before.before.doubled.ensures.0 c.before.before.before.doubled2.ensures.0 c.before.before.doubled3.ensures.0 c.before.doubled4.ensures.0 c.doubled5.ensures.0 in
+    let w = in_turn a.n _ _ _ _ _ c.before.before.before.before.doubled.ensures.0 c.before.before.before.doubled2.ensures.0 c.before.before.doubled3.ensures.0 c.before.doubled4.ensures.0 c.doubled5.ensures.0 in
     let p = is_normal a.n (a.head / 1024 % 256) (omega arith) (omega arith) c.before.before.before.before.before.requires.4 in
-    omega (arith, w, p.held, p.most, p.above, p.five-is)
+    omega (arith, w, p.held, p.most, p.above, p.five_is)
 
 mul-result-3 : tie.Need-overflow-mul-result-3
 mul-result-3 c = search rules
@@ -54,12 +54,12 @@ returns : tie.Need-returns
 returns c =
     let a = c.before.before.before.before.before.args in
     let h = a.head in
-    let w = in-turn a.n _ _ _ _ _ c.before.before.before.before.doubled.ensures.0 c.before.before.before.doubled2.ensures.0 c.before.before.doubled3.ensures.0 c.before.doubled4.ensures.0 c.doubled5.ensures.0 in
+    let w = in_turn a.n _ _ _ _ _ c.before.before.before.before.doubled.ensures.0 c.before.before.before.doubled2.ensures.0 c.before.before.doubled3.ensures.0 c.before.doubled4.ensures.0 c.doubled5.ensures.0 in
     let p = is_normal a.n (h / 1024 % 256) (omega arith) (omega arith) c.before.before.before.before.before.requires.4 in
     let head : h ≡ h / 1024 * 1024 = omega arith in
     λ e1.
     (λ i. (head i + w i * 32 - 11 * 1024) * 8192)
-    ∙ normal-built (h / 1024) a.n (omega arith) e1 (omega arith) (omega arith) p
+    ∙ normal_built (h / 1024) a.n (omega arith) e1 (omega arith) (omega arith) p
     ∙ ap (λ (s : Bool). bits_of s a.n (h / 1024 % 256)) (sign_at h (omega arith))
 
 pub normal-spec : {M : Type 1} → statement M

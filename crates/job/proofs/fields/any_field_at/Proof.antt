@@ -1,5 +1,5 @@
 -- `job::fields::any_field_at` meets its contract: a cut field, or its payload read. Assumes nothing.
-use Rattle.job.proofs.Answered.{field_cut, field-whole}
+use Rattle.job.proofs.Answered.{field_cut, field_whole}
 use native.Mathlib.Omega.{arith}
 use borrow.Author.Rules.{rules}
 use Rattle.job.proofs.fields.any_field_at.Statement.{statement}
@@ -56,7 +56,7 @@ read-field-requires c κs = search rules
 returns-4 : tie.Need-returns-4
 returns-4 c =
     let a = c.before.before.before.before.before.before.before.before.args in
-    field-whole a.job.now a.at _ _ c.before.before.before.before.read2.ensures.0 (omega arith) c.read-field.ensures
+    field_whole a.job.now a.at _ _ c.before.before.before.before.read2.ensures.0 (omega arith) c.read-field.ensures
 
 pub any-field-at-spec : {M : Type 1} → statement M
 any-field-at-spec =

@@ -4,9 +4,9 @@ use lib.Dec.{eqb, ltb}
 use mathlib.Core.Bool.{◌&&◌}
 use mathlib.Core.Path.{sym, ◌∙◌}
 use native.Mathlib.Omega.{arith}
-use Rattle.job.specs.Kinds.{readKind}
-use Rattle.job.proofs.Answered.{field-tagged, field-answered}
-use Rattle.cells.specs.Layout.{threadRegisters}
+use Rattle.job.specs.Kinds.{read_kind}
+use Rattle.job.proofs.Answered.{field_tagged, field_answered}
+use Rattle.cells.specs.Layout.{thread_registers}
 use Rattle.cells.proofs.Cells.{both}
 use borrow.Author.Tests.{eqb-true}
 use borrow.Author.Rules.{rules}
@@ -47,11 +47,11 @@ read-issue-requires : tie.Need-read-issue-requires
 read-issue-requires c κs = search rules
 
 returns : tie.Need-returns
-unfolding readKind
+unfolding read_kind
 returns c = let a = c.before.before.before.before.before.before.before.before.before.before.args in
     let job = a.job.now in
     let head = both (eqb (get_or job a.at 0) 5) (eqb c.before.before.before.before.before.read2.result 5) c.before.before.if3.true in
-    field-answered _ _ _ (field-tagged job a.at 5 5 _ (eqb-true _ _ head.0) (sym (eqb-true _ _ head.1) ∙ c.before.before.before.before.before.read2.ensures.0) (omega arith) c.read-issue.ensures)
+    field_answered _ _ _ (field_tagged job a.at 5 5 _ (eqb-true _ _ head.0) (sym (eqb-true _ _ head.1) ∙ c.before.before.before.before.before.read2.ensures.0) (omega arith) c.read-issue.ensures)
 
 add_wide : tie.Need-overflow-add-wide
 add_wide c = search rules
@@ -78,19 +78,19 @@ read-load-register-requires : tie.Need-read-load-register-requires
 read-load-register-requires c κs = search rules
 
 returns-2 : tie.Need-returns-2
-unfolding readKind
+unfolding read_kind
 returns-2 c = let a = c.before.before.before.before.before.before.before.before.before.before.before.before.before.args in
     let job = a.job.now in
     let tag = eqb (get_or job a.at 0) 3 in
     let len = eqb c.before.before.before.before.before.before.before.before.read2.result 6 in
-    let head = both tag len (both (tag && len) (ltb c.before.before.before.wide.result threadRegisters) c.before.before.if4.true).0 in
-    field-answered _ _ _ (field-tagged job a.at 3 6 _ (eqb-true _ _ head.0) (sym (eqb-true _ _ head.1) ∙ c.before.before.before.before.before.before.before.before.read2.ensures.0) (omega arith) c.read-load-register.ensures)
+    let head = both tag len (both (tag && len) (ltb c.before.before.before.wide.result thread_registers) c.before.before.if4.true).0 in
+    field_answered _ _ _ (field_tagged job a.at 3 6 _ (eqb-true _ _ head.0) (sym (eqb-true _ _ head.1) ∙ c.before.before.before.before.before.before.before.before.read2.ensures.0) (omega arith) c.read-load-register.ensures)
 
 any-field-at-requires : tie.Need-any-field-at-requires
 any-field-at-requires c κs = search rules
 
 returns-3 : tie.Need-returns-3
-returns-3 c = field-answered _ _ _ c.any-field-at.ensures
+returns-3 c = field_answered _ _ _ c.any-field-at.ensures
 
 pub field-at-spec : {M : Type 1} → statement M
 field-at-spec =

@@ -1,7 +1,7 @@
 -- `job::fields::payload_at` meets its contract. Assumes nothing.
 use native.Mathlib.Nat.{add-sub_cancel_left}
 use native.Mathlib.Omega.{arith}
-use Rattle.job.proofs.Payloads.{payload-none, payload_cut}
+use Rattle.job.proofs.Payloads.{payload_none, payload_cut}
 use borrow.Author.Rules.{rules}
 use Rattle.job.proofs.fields.payload_at.Statement.{statement}
 use Rattle.job.proofs.fields.payload_at.Tie as tie
@@ -16,7 +16,7 @@ part-result-end : tie.Need-slice-bounds-result-end
 part-result-end c = search rules
 
 returns : tie.Need-returns
-returns c = let a = c.before.before.before.args in payload-none a.job.now a.at (omega arith)
+returns c = let a = c.before.before.before.args in payload_none a.job.now a.at (omega arith)
 
 sub-result-2 : tie.Need-overflow-sub-result-2
 sub-result-2 c = search rules
@@ -28,7 +28,7 @@ part-result-end-2 : tie.Need-slice-bounds-result-end-2
 part-result-end-2 c = search rules
 
 returns-2 : tie.Need-returns-2
-returns-2 c = let a = c.before.before.before.before.args in payload-none a.job.now a.at (omega arith)
+returns-2 c = let a = c.before.before.before.before.args in payload_none a.job.now a.at (omega arith)
 
 add-b : tie.Need-overflow-add-b
 add-b c = search rules

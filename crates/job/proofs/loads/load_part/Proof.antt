@@ -7,9 +7,9 @@ use lib.ListN.{length}
 use Rattle.cells.specs.declared.Part.{Part}
 use Rattle.cells.specs.declared.Part.TheVariants.{Whole, Low, High}
 use Rattle.cells.specs.Parts.{place_in}
-use Rattle.cells.proofs.Parts.{Going, going_start, going-length, first-inside, going-inside, going-place, going_before, going_on, going_end}
-use Rattle.job.specs.Kinds.{rowValue}
-use Rattle.job.specs.Loading.{valueFrom}
+use Rattle.cells.proofs.Parts.{Going, going_start, going_length, first_inside, going_inside, going_place, going_before, going_on, going_end}
+use Rattle.job.specs.Kinds.{row_value}
+use Rattle.job.specs.Loading.{value_from}
 use borrow.Author.Rules.{rules}
 use Rattle.job.proofs.loads.load_part.Statement.{statement}
 use Rattle.job.proofs.loads.load_part.Tie as tie
@@ -25,12 +25,12 @@ inside : (a : Part) (f : ℕ → ℕ) (d₀ : List ℕ) (lo hi from to : ℕ) (d
     → 4 * (hi - lo) ≤ m - 3 → (lo ≤ b + i) × (b + i < hi) × (3 + 4 * (b + i - lo) + 4 ≤ m)
 inside a f d₀ lo hi from to d i b m g h e room =
     let at = from-base a (length d₀) i b e in
-    let low = going-place a f d₀ lo hi from to d i g h in
+    let low = going_place a f d₀ lo hi from to d i g h in
     let high = going_before a f d₀ lo hi from to d i g h in
     (omega arith, omega arith, omega arith)
 
 abbrev invariant-loop : tie.invariant-loop
-invariant-loop part base payload lo hi file₀ n end i₀ file i = Going part (valueFrom payload lo) file₀ lo hi i₀ end file i
+invariant-loop part base payload lo hi file₀ n end i₀ file i = Going part (value_from payload lo) file₀ lo hi i₀ end file i
 
 abbrev decreases-loop : tie.decreases-loop
 decreases-loop part base payload lo hi file₀ n end i₀ file i = end - i
@@ -60,19 +60,19 @@ read4-requires : tie.Need-read4-requires invariant-loop decreases-loop
 read4-requires c κs = let s = c.before.before.before.before.before.before in (inside _ _ _ _ _ _ _ _ _ _ _ c.before.loop.invariant c.loop-test.true s.requires.1 s.requires.2).2
 
 mul-with-part : tie.Need-overflow-mul-with-part invariant-loop decreases-loop
-mul-with-part c = omega (arith, first-inside _ _ _ _ _ _ _ _ _ c.before.before.loop.invariant c.before.loop-test.true)
+mul-with-part c = omega (arith, first_inside _ _ _ _ _ _ _ _ _ c.before.before.loop.invariant c.before.loop-test.true)
 
 slice-read-with-part : tie.Need-slice-read-with-part invariant-loop decreases-loop
-slice-read-with-part c = going-inside _ _ _ _ _ _ _ _ _ c.before.before.before.loop.invariant c.before.before.loop-test.true
+slice-read-with-part c = going_inside _ _ _ _ _ _ _ _ _ c.before.before.before.loop.invariant c.before.before.loop-test.true
 
 with-part-requires : tie.Need-with-part-requires invariant-loop decreases-loop
 with-part-requires c κs = search rules
 
 mul-file : tie.Need-overflow-mul-file invariant-loop decreases-loop
-mul-file c = omega (arith, first-inside _ _ _ _ _ _ _ _ _ c.before.before.before.before.loop.invariant c.before.before.before.loop-test.true)
+mul-file c = omega (arith, first_inside _ _ _ _ _ _ _ _ _ c.before.before.before.before.loop.invariant c.before.before.before.loop-test.true)
 
 slice-write-file : tie.Need-slice-write-file invariant-loop decreases-loop
-slice-write-file c = going-inside _ _ _ _ _ _ _ _ _ c.before.before.before.before.loop.invariant c.before.before.before.loop-test.true
+slice-write-file c = going_inside _ _ _ _ _ _ _ _ _ c.before.before.before.before.loop.invariant c.before.before.before.loop-test.true
 
 add-i : tie.Need-overflow-add-i invariant-loop decreases-loop
 add-i c = search rules
@@ -83,10 +83,10 @@ loop-less c = omega arith
 loop-again : tie.Need-loop-preserved invariant-loop decreases-loop
 loop-again c = let l = c.before.before.before.before.loop in
     let s = c.before.before.before.before.before.before.before.before.before in
-    going_on _ _ _ _ _ _ _ _ _ l.invariant _ _ c.before.before.before.loop-test.true (c.before.before.read4.ensures ∙ ap (λ (p : ℕ). rowValue s.args.payload.now (p - s.args.lo)) (from-base s.args.part (length s.args.file.now) l.i s.args.base s.requires.1)) c.«with_part».ensures
+    going_on _ _ _ _ _ _ _ _ _ l.invariant _ _ c.before.before.before.loop-test.true (c.before.before.read4.ensures ∙ ap (λ (p : ℕ). row_value s.args.payload.now (p - s.args.lo)) (from-base s.args.part (length s.args.file.now) l.i s.args.base s.requires.1)) c.«with_part».ensures
 
 same_length : tie.Need-same-length invariant-loop decreases-loop
-same_length c = going-length _ _ _ _ _ _ _ _ _ c.before.loop.invariant
+same_length c = going_length _ _ _ _ _ _ _ _ _ c.before.loop.invariant
 
 returns : tie.Need-returns invariant-loop decreases-loop
 returns c = going_end _ _ _ _ _ _ _ _ _ c.before.loop.invariant c.loop-test.false

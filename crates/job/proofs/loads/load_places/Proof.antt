@@ -1,5 +1,5 @@
 -- `job::loads::load_places` meets its contract: the parts of the width are loaded one after the other. Assumes nothing.
-use Rattle.cells.proofs.Parts.{by_whole, by-halves}
+use Rattle.cells.proofs.Parts.{by_whole, by_halves}
 use borrow.Author.Rules.{rules}
 use Rattle.job.proofs.loads.load_places.Statement.{statement}
 use Rattle.job.proofs.loads.load_places.Tie as tie
@@ -30,7 +30,7 @@ same-length-2 c = search rules
 
 returns-2 : tie.Need-returns-2
 returns-2 c = let a = c.before.before.before.before.before.before.before.before.before.before.before.before.args in
-    by-halves a.width a.lo a.hi _ a.file.now _ c.before.before.before.before.before.before.before.before.enum-told2.given.1 _ c.before.before.before.before.before.before.load-part2.ensures c.before.before.load-part3.ensures
+    by_halves a.width a.lo a.hi _ a.file.now _ c.before.before.before.before.before.before.before.before.enum-told2.given.1 _ c.before.before.before.before.before.before.load-part2.ensures c.before.before.load-part3.ensures
 
 pub load-places-spec : {M : Type 1} → statement M
 load-places-spec =

@@ -1,5 +1,5 @@
 -- `job::loads::load_rows` meets its contract. Assumes nothing.
-use Rattle.job.proofs.Loading.{loaded-inside, loaded-past}
+use Rattle.job.proofs.Loading.{loaded_inside, loaded_past}
 use lib.ListN.{length}
 use Prim.Native.Nat.{◌+◌, ◌-◌, ◌*◌, ◌/◌, ◌≤◌}
 use native.Mathlib.Omega.{arith}
@@ -42,7 +42,7 @@ same_length : tie.Need-same-length
 same_length c = search rules
 
 returns : tie.Need-returns
-returns c = let a = c.before.before.before.before.before.before.before.before.before.before.args in loaded-inside a.width a.payload.now (a.base + a.rows.first) a.rows.count a.file.now _ c.before.before.load-places.ensures
+returns c = let a = c.before.before.before.before.before.before.before.before.before.before.args in loaded_inside a.width a.payload.now (a.base + a.rows.first) a.rows.count a.file.now _ c.before.before.load-places.ensures
 
 add-mid : tie.Need-overflow-add-mid
 add-mid c = search rules
@@ -83,7 +83,7 @@ returns-2 : tie.Need-returns-2
 returns-2 c =
     let a = c.before.before.before.before.before.before.before.before.before.before.before.before.before.before.before.before.before.before.before.args in
     let b = c.before.before.before.before.before.before.before.before.before.before.before.before.before.before.bytes_left in
-    loaded-past a.width a.payload.now (a.base + a.rows.first) a.rows.count a.file.now (b.result / 4) _ _ _ _ (omega (arith, b.ensures)) (omega (arith, c.before.before.before.before.before.before.before.before.before.before.before.before.before.if1.false)) c.before.before.before.before.before.before.before.before.number_at.ensures c.before.before.before.before.before.before.before.before.before.before.before.load-places2.ensures c.before.before.before.before.before.before.fill-places.ensures c.before.before.fill-places2.ensures
+    loaded_past a.width a.payload.now (a.base + a.rows.first) a.rows.count a.file.now (b.result / 4) _ _ _ _ (omega (arith, b.ensures)) (omega (arith, c.before.before.before.before.before.before.before.before.before.before.before.before.before.if1.false)) c.before.before.before.before.before.before.before.before.number_at.ensures c.before.before.before.before.before.before.before.before.before.before.before.load-places2.ensures c.before.before.before.before.before.before.fill-places.ensures c.before.before.fill-places2.ensures
 
 pub load-rows-spec : {M : Type 1} → statement M
 load-rows-spec =

@@ -5,9 +5,9 @@ use native.Mathlib.Omega.{arith}
 use Prim.Native.Nat.{ℕ, ◌-◌}
 use mathlib.Core.Path.{◌≡◌, refl, sym, ◌∙◌}
 use borrow.Author.Tests.{ne_eqb, eq-eqb}
-use Rattle.job.proofs.Halves.{each-byte}
-use Rattle.cells.proofs.Tables.{Filled, filled_more, filled-all}
-use Rattle.job.specs.Settings.{bytesBy}
+use Rattle.job.proofs.Halves.{each_byte}
+use Rattle.cells.proofs.Tables.{Filled, filled_more, filled_all}
+use Rattle.job.specs.Settings.{bytes_by}
 use borrow.Author.Rules.{rules}
 use Rattle.job.proofs.settings.settings_bytes.Statement.{statement}
 use Rattle.job.proofs.settings.settings_bytes.Tie as tie
@@ -19,7 +19,7 @@ abbrev decreases-loop : tie.decreases-loop
 decreases-loop p bytes₀ i₀ bytes i = 160 - i
 
 returns : tie.Need-returns invariant-loop decreases-loop
-unfolding bytesBy
+unfolding bytes_by
 returns c = simp (ne_eqb _ _ c.if1.true)
 
 loop-holds : tie.Need-loop-init invariant-loop decreases-loop
@@ -41,10 +41,10 @@ loop-again : tie.Need-loop-preserved invariant-loop decreases-loop
 loop-again c = filled_more c.before.before.loop.invariant c.before.loop-test.true refl
 
 returns-2 : tie.Need-returns-2 invariant-loop decreases-loop
-unfolding bytesBy
+unfolding bytes_by
 returns-2 c = let p = c.before.before.before.args.p.now in
     let e : length p ≡ 160 = c.before.before.if1.false in
-    filled-all c.before.loop.invariant c.loop-test.false ∙ each-byte p 160 (omega arith) ∙ (λ i. take (sym e i) p) ∙ take-length p ∙ simp (eq-eqb _ _ e)
+    filled_all c.before.loop.invariant c.loop-test.false ∙ each_byte p 160 (omega arith) ∙ (λ i. take (sym e i) p) ∙ take-length p ∙ simp (eq-eqb _ _ e)
 
 pub settings-bytes-spec : {M : Type 1} → statement M
 settings-bytes-spec =

@@ -1,6 +1,6 @@
 -- `compose::finished_text` meets its contract: a word and a number. Assumes nothing.
-use Rattle.lines.proofs.Texts.{number-text}
-use Rattle.lines.specs.Text.{wordFinished, finishedText}
+use Rattle.lines.proofs.Texts.{number_text}
+use Rattle.lines.specs.Text.{word_finished, finished_text}
 use native.Mathlib.Omega.{arith}
 use mathlib.Core.Path.{◌∙◌}
 use borrow.Author.Rules.{rules}
@@ -23,8 +23,8 @@ push-requires : tie.Need-push-requires
 push-requires c κs = search rules
 
 returns : tie.Need-returns
-unfolding finishedText
-returns c = number-text wordFinished _ (omega arith) (omega arith) _
+unfolding finished_text
+returns c = number_text word_finished _ (omega arith) (omega arith) _
     (c.push.ensures ∙ rw (c.before.push-decimal.ensures, c.before.before.push-word.ensures, c.before.before.before.before.empty.ensures))
 
 pub finished-text-spec : {M : Type 1} → statement M

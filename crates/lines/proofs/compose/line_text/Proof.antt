@@ -1,5 +1,5 @@
 -- `compose::line_text` meets its contract: a word, numbers and values, one after the other. Assumes nothing.
-use Rattle.lines.proofs.Texts.{row-text, value-text}
+use Rattle.lines.proofs.Texts.{row_text, value_text}
 use Rattle.lines.specs.Text.{line_of}
 use Rattle.cells.specs.Places.{get_at}
 use native.Mathlib.Omega.{arith}
@@ -76,13 +76,13 @@ push-requires-3 c κs = search rules
 
 returns : tie.Need-returns
 unfolding line_of
-returns c = rw c.before.before.before.before.before.before.before.what.given.1 (row-text _ _ _ _ (omega arith)
+returns c = rw c.before.before.before.before.before.before.before.what.given.1 (row_text _ _ _ _ (omega arith)
     (c.push.ensures ∙ rw (c.before.push_row.ensures, c.before.before.push-decimal.ensures, c.before.before.before.push-word.ensures, c.before.before.before.before.before.empty.ensures)))
 
 returns-2 : tie.Need-returns-2
 unfolding line_of get_at
 returns-2 c = let known = c.before.before.before.before.before.before.before.before.before.before.known-told2.given in
-    rw c.before.before.before.before.before.before.before.before.before.before.before.what2.given.1 (value-text _ _ _ _ (omega (arith, known)) (omega (arith, known))
+    rw c.before.before.before.before.before.before.before.before.before.before.before.what2.given.1 (value_text _ _ _ _ (omega (arith, known)) (omega (arith, known))
     (c.push3.ensures ∙ rw (c.before.push-value.ensures, c.before.before.read.ensures, c.before.before.before.register-at.ensures, c.before.before.before.before.push-decimal3.ensures, c.before.before.before.before.before.push2.ensures, c.before.before.before.before.before.before.push-decimal2.ensures, c.before.before.before.before.before.before.before.push-word2.ensures, c.before.before.before.before.before.before.before.before.before.empty2.ensures)))
 
 pub line-text-spec : {M : Type 1} → statement M

@@ -1,6 +1,6 @@
 -- `compose::passed_text` meets its contract: a word and a number. Assumes nothing.
-use Rattle.lines.proofs.Texts.{number-text}
-use Rattle.lines.specs.Text.{wordPassed, passedText}
+use Rattle.lines.proofs.Texts.{number_text}
+use Rattle.lines.specs.Text.{word_passed, passed_text}
 use native.Mathlib.Omega.{arith}
 use mathlib.Core.Path.{◌∙◌}
 use borrow.Author.Rules.{rules}
@@ -23,8 +23,8 @@ push-requires : tie.Need-push-requires
 push-requires c κs = search rules
 
 returns : tie.Need-returns
-unfolding passedText
-returns c = number-text wordPassed _ (omega arith) (omega arith) _
+unfolding passed_text
+returns c = number_text word_passed _ (omega arith) (omega arith) _
     (c.push.ensures ∙ rw (c.before.push-decimal.ensures, c.before.before.push-word.ensures, c.before.before.before.before.empty.ensures))
 
 pub passed-text-spec : {M : Type 1} → statement M

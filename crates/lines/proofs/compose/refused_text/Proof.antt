@@ -2,11 +2,11 @@
 use mathlib.Core.Path.{◌≡◌, ◌∙◌}
 use Prim.Native.Nat.{ℕ}
 use native.Mathlib.Omega.{arith}
-use Rattle.word.specs.Refusal.{number_of, bit_of, bitNumber, bitBy}
+use Rattle.word.specs.Refusal.{number_of, bit_of, bit_number, bit_by}
 use Rattle.word.specs.declared.Refusal.{Refusal}
-use Rattle.word.proofs.Numbers.{bit-back}
-use Rattle.lines.specs.Text.{wordRefused, word_at, bitText, refusedText}
-use Rattle.lines.proofs.Texts.{numbers-text, bit-short}
+use Rattle.word.proofs.Numbers.{bit_back}
+use Rattle.lines.specs.Text.{word_refused, word_at, bit_text, refused_text}
+use Rattle.lines.proofs.Texts.{numbers_text, bit_short}
 use borrow.Author.Rules.{rules}
 use Rattle.lines.proofs.compose.refused_text.Statement.{statement}
 use Rattle.lines.proofs.compose.refused_text.Tie as tie
@@ -48,18 +48,18 @@ push-requires : tie.Need-push-requires
 push-requires c κs = search rules
 
 -- the bit comes back by the number
-bit_is : (r : Refusal) {n b : ℕ} → n ≡ number_of r → b ≡ bitNumber (bit_of r) → bitBy n b ≡ bit_of r
-bit_is r e q = rw (e, q) (bit-back r)
+bit_is : (r : Refusal) {n b : ℕ} → n ≡ number_of r → b ≡ bit_number (bit_of r) → bit_by n b ≡ bit_of r
+bit_is r e q = rw (e, q) (bit_back r)
 
 returns : tie.Need-returns
-unfolding refusedText
+unfolding refused_text
 returns c =
     let start = c.before.before.before.before.before.before.before.before.before.before.before in
     let r = start.args.refusal in
     let n = c.before.before.before.before.before.before.before.before.before.before.number.ensures in
     let b = c.before.before.before.before.before.before.before.before.before.bit.ensures in
     rw (← n)
-    (numbers-text wordRefused _ (omega arith) (omega arith) word_at _ (omega (arith, start.ranges)) (omega arith) (bitText (bit_of r)) (bit-short (bit_of r) (omega (arith, b))) _
+    (numbers_text word_refused _ (omega arith) (omega arith) word_at _ (omega (arith, start.ranges)) (omega arith) (bit_text (bit_of r)) (bit_short (bit_of r) (omega (arith, b))) _
     (c.push.ensures ∙ rw (c.before.push-bit.ensures, bit_is r n b, c.before.before.push-decimal2.ensures, c.before.before.before.push-word2.ensures, c.before.before.before.before.before.push-decimal.ensures, c.before.before.before.before.before.before.push-word.ensures, c.before.before.before.before.before.before.before.before.empty.ensures)))
 
 pub refused-text-spec : {M : Type 1} → statement M

@@ -1,7 +1,7 @@
 -- `write::push_decimal` meets its contract: the digits before the last, then the last. Assumes nothing.
 use mathlib.Core.Path.{◌∙◌}
 use native.Mathlib.Omega.{arith}
-use Rattle.lines.proofs.Texts.{wrote_one, wrote-last, decimal-one, decimal-more}
+use Rattle.lines.proofs.Texts.{wrote_one, wrote_last, decimal_one, decimal_more}
 use borrow.Author.Rules.{rules}
 use Prim.Native.Nat.{ℕ, ◌<◌}
 use borrow.Fn.Kinds.{In}
@@ -58,7 +58,7 @@ push-decimal-returns : (t : ℕ) → push-decimal-lts.Need-returns (
   push-decimal-below t,
   push-decimal.Post,
 ) (push-decimal-at t) push-decimal.Post
-push-decimal-returns t c = c.push.ensures ∙ rw (decimal-one _ c.before.if1.true) (wrote_one _ _)
+push-decimal-returns t c = c.push.ensures ∙ rw (decimal_one _ c.before.if1.true) (wrote_one _ _)
 
 push-decimal-push-decimal-requires : (t : ℕ) → push-decimal-lts.Need-push-decimal-requires (
   push-reads.Asked,
@@ -98,7 +98,7 @@ push-decimal-returns-2 : (t : ℕ) → push-decimal-lts.Need-returns-2 (
   push-decimal-below t,
   push-decimal.Post,
 ) (push-decimal-at t) push-decimal.Post
-push-decimal-returns-2 t c = c.push2.ensures ∙ rw (c.before.push-decimal.ensures, decimal-more _ c.before.before.if1.false) (wrote-last _ _ _)
+push-decimal-returns-2 t c = c.push2.ensures ∙ rw (c.before.push-decimal.ensures, decimal_more _ c.before.before.if1.false) (wrote_last _ _ _)
 
 pub +push-decimal-spec : {M : Type 1} → statement M
 +push-decimal-spec = close μ-push-decimal λ t. push-decimal-lts.spec (

@@ -2,7 +2,7 @@
 use mathlib.Core.Path.{◌∙◌}
 use native.Mathlib.Omega.{arith}
 use Rattle.lines.specs.Text.{wrote}
-use Rattle.lines.proofs.Texts.{wrote-last, hex-none, hex-more}
+use Rattle.lines.proofs.Texts.{wrote_last, hex_none, hex_more}
 use borrow.Author.Rules.{rules}
 use Prim.Native.Nat.{ℕ, ◌<◌}
 use borrow.Fn.Kinds.{In}
@@ -34,7 +34,7 @@ push-hex-returns : (t : ℕ) → push-hex-lts.Need-returns (
   push-reads.Learnt,
 ) (push-hex-at t) push-hex.Post
 unfolding wrote
-push-hex-returns t c = rw (hex-none _ _ c.if1.true)
+push-hex-returns t c = rw (hex_none _ _ c.if1.true)
 
 push-hex-sub-push-hex : (t : ℕ) → push-hex-lts.Need-overflow-sub-push-hex (
   push-hex-below t,
@@ -84,7 +84,7 @@ push-hex-returns-2 : (t : ℕ) → push-hex-lts.Need-returns-2 (
   push-reads.Asked,
   push-reads.Learnt,
 ) (push-hex-at t) push-hex.Post
-push-hex-returns-2 t c = c.push.ensures ∙ rw (c.before.before.push-hex.ensures, c.before.hex-digit.ensures, hex-more _ _ c.before.before.before.if1.false) (wrote-last _ _ _)
+push-hex-returns-2 t c = c.push.ensures ∙ rw (c.before.before.push-hex.ensures, c.before.hex-digit.ensures, hex_more _ _ c.before.before.before.if1.false) (wrote_last _ _ _)
 
 pub +push-hex-spec : {M : Type 1} → statement M
 +push-hex-spec = close μ-push-hex λ t. push-hex-lts.spec (

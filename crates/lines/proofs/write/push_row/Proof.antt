@@ -1,8 +1,8 @@
 -- `write::push_row` meets its contract: the columns from here on written give the whole row. Assumes nothing.
-use Rattle.lines.proofs.Texts.{columns-on, columns-done}
+use Rattle.lines.proofs.Texts.{columns_on, columns_done}
 use Rattle.lines.specs.Text.{wrote, values}
 use Rattle.lines.specs.Lines.{columns}
-use Rattle.cells.specs.Places.{digitsOf}
+use Rattle.cells.specs.Places.{digits_of}
 use native.Mathlib.Omega.{arith}
 use Prim.Native.Nat.{◌-◌, ◌≤◌}
 use mathlib.Core.Path.{◌≡◌, sym, ◌∙◌}
@@ -11,7 +11,7 @@ use Rattle.lines.proofs.write.push_row.Statement.{statement}
 use Rattle.lines.proofs.write.push_row.Tie as tie
 
 abbrev invariant-loop : tie.invariant-loop
-invariant-loop width dst row digits first out₀ k₀ out k = (wrote out (values digits (columns width dst row k (16 - k))) ≡ wrote out₀ (values (digitsOf width) (columns width dst row 0 16))) × (k ≤ 16)
+invariant-loop width dst row digits first out₀ k₀ out k = (wrote out (values digits (columns width dst row k (16 - k))) ≡ wrote out₀ (values (digits_of width) (columns width dst row 0 16))) × (k ≤ 16)
 
 abbrev decreases-loop : tie.decreases-loop
 decreases-loop width dst row digits first out₀ k₀ out k = 16 - k
@@ -41,10 +41,10 @@ loop-less : tie.Need-loop-smaller invariant-loop decreases-loop
 loop-less c = omega arith
 
 loop-again : tie.Need-loop-preserved invariant-loop decreases-loop
-loop-again c = (rw (c.push-value.ensures, c.before.read.ensures) (sym (columns-on _ _ _ _ _ _ c.before.before.loop-test.true)) ∙ c.before.before.before.loop.invariant.0, omega arith)
+loop-again c = (rw (c.push-value.ensures, c.before.read.ensures) (sym (columns_on _ _ _ _ _ _ c.before.before.loop-test.true)) ∙ c.before.before.before.loop.invariant.0, omega arith)
 
 returns : tie.Need-returns invariant-loop decreases-loop
-returns c = sym (columns-done _ _ _ _ _ _ c.loop-test.false) ∙ c.before.loop.invariant.0
+returns c = sym (columns_done _ _ _ _ _ _ c.loop-test.false) ∙ c.before.loop.invariant.0
 
 pub push-row-spec : {M : Type 1} → statement M
 push-row-spec =

@@ -3,20 +3,20 @@ use mathlib.Core.Path.{refl}
 use Prim.Native.Nat.{◌-◌, ◌≤◌}
 use native.Mathlib.Omega.{arith}
 use lib.ListN.{length}
-use Rattle.numbers.specs.Record.{numberFrom}
-use Rattle.numbers.proofs.Parts.{Put, put-none, put_one, put-end}
+use Rattle.numbers.specs.Record.{number_from}
+use Rattle.numbers.proofs.Parts.{Put, put_none, put_one, put_end}
 use borrow.Author.Rules.{rules}
 use Rattle.numbers.proofs.lists.put.Statement.{statement}
 use Rattle.numbers.proofs.lists.put.Tie as tie
 
 abbrev invariant-loop : tie.invariant-loop
-invariant-loop n₀ b part i₀ i-end n i = (i ≤ length part) × Put b (numberFrom part) n₀ n i
+invariant-loop n₀ b part i₀ i-end n i = (i ≤ length part) × Put b (number_from part) n₀ n i
 
 abbrev decreases-loop : tie.decreases-loop
 decreases-loop n₀ b part i₀ i-end n i = length part - i
 
 loop-holds : tie.Need-loop-init invariant-loop decreases-loop
-loop-holds c = (omega arith, put-none _ _ _)
+loop-holds c = (omega arith, put_none _ _ _)
 
 mul-n : tie.Need-overflow-mul-n invariant-loop decreases-loop
 mul-n c = search rules
@@ -46,7 +46,7 @@ same_length : tie.Need-same-length invariant-loop decreases-loop
 same_length c = c.before.loop.invariant.1.long
 
 returns : tie.Need-returns invariant-loop decreases-loop
-returns c = put-end _ c.before.loop.invariant.1 (omega arith)
+returns c = put_end _ c.before.loop.invariant.1 (omega arith)
 
 pub put_spec : {M : Type 1} → statement M
 put_spec =

@@ -4,20 +4,20 @@ use mathlib.Core.Bool.{true}
 use Prim.Native.Nat.{ℕ}
 use native.Mathlib.Omega.{arith}
 use lib.Dec.{ltb}
-use lib.ListN.{length, length-map, get_or}
+use lib.ListN.{length, length_map, get_or}
 use borrow.Author.Tests.{ltb-true, ne_eqb}
-use Rattle.cells.specs.Layout.{threadCount}
-use Rattle.control.specs.Record.{startThread, threadAt}
+use Rattle.cells.specs.Layout.{thread_count}
+use Rattle.control.specs.Record.{start_thread, thread_at}
 use Rattle.control.specs.declared.Thread.{Thread}
-use Rattle.control.proofs.Arrays.{getD-in}
-use Rattle.numbers.specs.Lists.{ownNumbers, butSlotsOver}
-use Rattle.numbers.proofs.Parts.{outside-shared, outside-thread, outside-all}
+use Rattle.control.proofs.Arrays.{get_d_in}
+use Rattle.numbers.specs.Lists.{own_numbers, but_slots_over}
+use Rattle.numbers.proofs.Parts.{outside_shared, outside_thread, outside_all}
 use borrow.Author.Rules.{rules}
 use Rattle.numbers.proofs.lists.write_but_slots.Statement.{statement}
 use Rattle.numbers.proofs.lists.write_but_slots.Tie as tie
 
 returns : tie.Need-returns
-unfolding butSlotsOver
+unfolding but_slots_over
 returns c = simp (ne_eqb _ _ c.if1.true)
 
 shared-numbers-requires : tie.Need-shared-numbers-requires
@@ -68,12 +68,12 @@ put-requires-4 c κs = search rules
 same_length : tie.Need-same-length
 same_length c = search rules
 
-three : (c : tie.Start) → length c.args.t1.threads ≡ threadCount
-three c = simp length-map at c.well-formed.0.1.1.1.0.1.0.1
+three : (c : tie.Start) → length c.args.t1.threads ≡ thread_count
+three c = simp length_map at c.well-formed.0.1.1.1.0.1.0.1
 
 -- the own numbers of a thread that is copied out of the array are those of the record's
-own : (c : tie.Start) (t : ℕ) (d : Thread) → ltb t threadCount ≡ true → ownNumbers (get_or c.args.t1.threads t d) ≡ ownNumbers (threadAt c.args.t1 t)
-own c t d h = ap (λ (x : Thread). ownNumbers x) (getD-in c.args.t1.threads d startThread t (omega (arith, three c, ltb-true t threadCount h)))
+own : (c : tie.Start) (t : ℕ) (d : Thread) → ltb t thread_count ≡ true → own_numbers (get_or c.args.t1.threads t d) ≡ own_numbers (thread_at c.args.t1 t)
+own c t d h = ap (λ (x : Thread). own_numbers x) (get_d_in c.args.t1.threads d start_thread t (omega (arith, three c, ltb-true t thread_count h)))
 
 returns-2 : tie.Need-returns-2
 returns-2 c =
@@ -82,11 +82,11 @@ returns-2 c =
     let first = second.before.before.before.before.before.before.before in
     let shared = first.before.before.before.before.before.before.before in
     let start = shared.before.before.before.before.before.before.before.before.before in
-    let s = outside-shared shared.before.before.before.shared-numbers.ensures shared.put.ensures in
-    let x = outside-thread 0 (first.before.before.before.own-numbers.ensures ∙ own start 0 _ refl) s first.put2.ensures in
-    let y = outside-thread 1 (second.before.before.before.own-numbers2.ensures ∙ own start 1 _ refl) x second.put3.ensures in
-    let z = outside-thread 2 (third.before.before.before.own-numbers3.ensures ∙ own start 2 _ refl) y third.put4.ensures in
-    outside-all start.args.t1 z shared.before.before.before.before.before.before.before.if1.false
+    let s = outside_shared shared.before.before.before.shared-numbers.ensures shared.put.ensures in
+    let x = outside_thread 0 (first.before.before.before.own-numbers.ensures ∙ own start 0 _ refl) s first.put2.ensures in
+    let y = outside_thread 1 (second.before.before.before.own-numbers2.ensures ∙ own start 1 _ refl) x second.put3.ensures in
+    let z = outside_thread 2 (third.before.before.before.own-numbers3.ensures ∙ own start 2 _ refl) y third.put4.ensures in
+    outside_all start.args.t1 z shared.before.before.before.before.before.before.before.if1.false
 
 pub write-but-slots-spec : {M : Type 1} → statement M
 write-but-slots-spec =

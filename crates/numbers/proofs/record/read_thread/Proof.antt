@@ -3,25 +3,25 @@ use mathlib.Core.Path.{◌≡◌, refl, ap, ◌∙◌}
 use mathlib.Core.List.{List}
 use Prim.Native.Nat.{ℕ, ◌+◌, ◌-◌, ◌*◌, ◌≤◌}
 use native.Mathlib.Omega.{arith}
-use Rattle.cells.proofs.Tables.{Filled, getD-table, filled_more, filled-all}
-use Rattle.control.specs.Record.{slotCount, zeroSlot}
+use Rattle.cells.proofs.Tables.{Filled, get_d_table, filled_more, filled_all}
+use Rattle.control.specs.Record.{slot_count, zero_slot}
 use Rattle.control.specs.declared.Slot.{Slot}
 use Rattle.control.specs.declared.Thread.{Thread}
-use Rattle.numbers.specs.Places.{ownLength, slotLength, threadLength}
-use Rattle.numbers.specs.Lists.{ownNumbers, slotNumbers, slotNumberAt, threadNumber}
-use Rattle.numbers.specs.Record.{slotFrom, slotsFrom, ownFrom, threadFrom, numberFrom}
-use Rattle.numbers.proofs.Parts.{own_at, slot-from, Same, same_none, same-list, same_first, same_rest}
+use Rattle.numbers.specs.Places.{own_length, slot_length, thread_length}
+use Rattle.numbers.specs.Lists.{own_numbers, slot_numbers, slot_number_at, thread_number}
+use Rattle.numbers.specs.Record.{slot_from, slots_from, own_from, thread_from, number_from}
+use Rattle.numbers.proofs.Parts.{own_at_lem, slot_from_lem, Same, same_none, same_list, same_first, same_rest}
 use borrow.Author.Rules.{rules}
 use Rattle.numbers.proofs.record.read_thread.Statement.{statement}
 use Rattle.numbers.proofs.record.read_thread.Tie as tie
 
 abbrev invariant-loop : tie.invariant-loop
 invariant-loop n b slots₀ same₀ first s₀ slots same s =
-    (s ≤ slotCount) × (Filled (λ (k : ℕ). slotFrom (numberFrom n) (b + ownLength + slotLength * k)) slotCount slots s)
-    × Same (b + ownLength) (λ (i : ℕ). threadNumber (threadFrom (numberFrom n) b) (ownLength + i)) (numberFrom n) same (slotLength * s)
+    (s ≤ slot_count) × (Filled (λ (k : ℕ). slot_from (number_from n) (b + own_length + slot_length * k)) slot_count slots s)
+    × Same (b + own_length) (λ (i : ℕ). thread_number (thread_from (number_from n) b) (own_length + i)) (number_from n) same (slot_length * s)
 
 abbrev decreases-loop : tie.decreases-loop
-decreases-loop n b slots₀ same₀ first s₀ slots same s = slotCount - s
+decreases-loop n b slots₀ same₀ first s₀ slots same s = slot_count - s
 
 zero-slot-requires : tie.Need-zero-slot-requires invariant-loop decreases-loop
 zero-slot-requires c κs = search rules
@@ -63,17 +63,17 @@ loop-less : tie.Need-loop-smaller invariant-loop decreases-loop
 loop-less c = omega arith
 
 loop-again : tie.Need-loop-preserved invariant-loop decreases-loop
-unfolding threadFrom slotsFrom slotNumberAt
+unfolding thread_from slots_from slot_number_at
 loop-again c = let v = c.before.before.before.before.before.loop in
-    let n = numberFrom c.before.before.before.before.before.before.before.before.args.n.now in
+    let n = number_from c.before.before.before.before.before.before.before.before.args.n.now in
     let b = c.before.before.before.before.before.before.before.before.args.b in
-    let slot : ℕ → Slot = λ s. slotFrom n (b + ownLength + slotLength * s) in
+    let slot : ℕ → Slot = λ s. slot_from n (b + own_length + slot_length * s) in
     let l = c.before.before.before.before.loop-test.true in
     let read = c.before.before.before.read-slot.ensures in (
       omega arith,
       filled_more v.invariant.1 l read,
-      same-list _ (c.before.before.slot-numbers.ensures ∙ ap (λ (x : Slot). slotNumbers x) read) v.invariant.2 c.stand.ensures refl
-          (λ i h. slot-from (threadFrom n b) v.s i _ h (omega arith) ∙ ap (λ (x : Slot). slotNumberAt x i) (getD-table slotCount slot zeroSlot v.s l)) (omega arith),
+      same_list _ (c.before.before.slot-numbers.ensures ∙ ap (λ (x : Slot). slot_numbers x) read) v.invariant.2 c.stand.ensures refl
+          (λ i h. slot_from_lem (thread_from n b) v.s i _ h (omega arith) ∙ ap (λ (x : Slot). slot_number_at x i) (get_d_table slot_count slot zero_slot v.s l)) (omega arith),
     )
 
 read-own-requires : tie.Need-read-own-requires invariant-loop decreases-loop
@@ -89,13 +89,13 @@ stand-requires-2 : tie.Need-stand-requires-2 invariant-loop decreases-loop
 stand-requires-2 c κs = search rules
 
 returns : tie.Need-returns invariant-loop decreases-loop
-unfolding threadFrom slotsFrom
+unfolding thread_from slots_from
 returns c = let v = c.before.before.before.before.before.loop in
-    let n = numberFrom c.before.before.before.before.before.before.before.before.args.n.now in
+    let n = number_from c.before.before.before.before.before.before.before.before.args.n.now in
     let b = c.before.before.before.before.before.before.before.before.args.b in
-    let thread : c.before.before.before.read-own.result ≡ threadFrom n b = c.before.before.before.read-own.ensures ∙ ap (λ (l : List Slot). ownFrom n b l) (filled-all v.invariant.1 c.before.before.before.before.loop-test.false) in
-    let own = same_first {n = n} b (threadNumber (threadFrom n b)) (c.before.before.own-numbers.ensures ∙ ap (λ (x : Thread). ownNumbers x) thread) c.stand2.ensures (own_at (threadFrom n b)) in
-    (thread, same_rest (slotLength * v.s) threadLength own v.invariant.2 (omega arith))
+    let thread : c.before.before.before.read-own.result ≡ thread_from n b = c.before.before.before.read-own.ensures ∙ ap (λ (l : List Slot). own_from n b l) (filled_all v.invariant.1 c.before.before.before.before.loop-test.false) in
+    let own = same_first {n = n} b (thread_number (thread_from n b)) (c.before.before.own-numbers.ensures ∙ ap (λ (x : Thread). own_numbers x) thread) c.stand2.ensures (own_at_lem (thread_from n b)) in
+    (thread, same_rest (slot_length * v.s) thread_length own v.invariant.2 (omega arith))
 
 pub read-thread-spec : {M : Type 1} → statement M
 read-thread-spec =

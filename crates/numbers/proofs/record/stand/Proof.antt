@@ -3,14 +3,14 @@ use mathlib.Core.Path.{refl}
 use Prim.Native.Nat.{◌-◌, ◌≤◌}
 use native.Mathlib.Omega.{arith}
 use lib.ListN.{length}
-use Rattle.numbers.specs.Record.{numberFrom}
-use Rattle.numbers.proofs.Parts.{Same, same_none, same-one, same_end}
+use Rattle.numbers.specs.Record.{number_from}
+use Rattle.numbers.proofs.Parts.{Same, same_none, same_one, same_end}
 use borrow.Author.Rules.{rules}
 use Rattle.numbers.proofs.record.stand.Statement.{statement}
 use Rattle.numbers.proofs.record.stand.Tie as tie
 
 abbrev invariant-loop : tie.invariant-loop
-invariant-loop n b part same₀ i₀ i-end same i = (i ≤ length part) × Same b (numberFrom part) (numberFrom n) same i
+invariant-loop n b part same₀ i₀ i-end same i = (i ≤ length part) × Same b (number_from part) (number_from n) same i
 
 abbrev decreases-loop : tie.decreases-loop
 decreases-loop n b part same₀ i₀ i-end same i = length part - i
@@ -40,7 +40,7 @@ loop-less : tie.Need-loop-smaller invariant-loop decreases-loop
 loop-less c = omega arith
 
 loop-again : tie.Need-loop-preserved invariant-loop decreases-loop
-loop-again c = (omega arith, same-one c.before.before.before.loop.invariant.1 refl)
+loop-again c = (omega arith, same_one c.before.before.before.loop.invariant.1 refl)
 
 returns : tie.Need-returns invariant-loop decreases-loop
 returns c = same_end (length c.before.before.args.part.now) c.before.loop.invariant.1 (omega arith)

@@ -1,11 +1,11 @@
 -- `precheck::classes::check_legacy` meets its contract: both owners, then the clear. Assumes nothing.
 use mathlib.Core.Path.{sym, ap, ◌∙◌}
-use Rattle.rules.specs.Access.{reads_of, setsOf, unsetsOf}
-use Rattle.rules.specs.Rules.{operandRules, lowest}
+use Rattle.rules.specs.Access.{reads_of, sets_of, unsets_of}
+use Rattle.rules.specs.Rules.{operand_rules, lowest}
 use Rattle.control.specs.Halves.{joined}
-use Rattle.precheck.specs.Instruction.{marksAfter}
+use Rattle.precheck.specs.Instruction.{marks_after}
 use Rattle.precheck.specs.Marks.{marks}
-use Rattle.precheck.proofs.ByClass.{nothing-set, cleared_by}
+use Rattle.precheck.proofs.ByClass.{nothing_set, cleared_by}
 use Rattle.precheck.proofs.Judged.{nothing_read, refused}
 use Rattle.word.specs.declared.Legacy.{Legacy}
 use borrow.Author.Rules.{rules}
@@ -22,7 +22,7 @@ enum-told-2 : tie.Need-enum-told-2
 enum-told-2 c = search rules
 
 returns : tie.Need-returns
-unfolding joined operandRules lowest
+unfolding joined operand_rules lowest
 returns c = λ s t d r. refused _ _ _ _ (c.before.before.judge-legacy.ensures.0 s) _ c.enum-told2.given.1 _
 
 fields-requires : tie.Need-fields-requires
@@ -38,10 +38,10 @@ same-length-2 : tie.Need-same-length-2
 same-length-2 c = search rules
 
 returns-2 : tie.Need-returns-2
-unfolding joined operandRules lowest reads_of setsOf unsetsOf marksAfter
+unfolding joined operand_rules lowest reads_of sets_of unsets_of marks_after
 returns-2 c = let args = c.before.before.before.before.before.before.before.before.before.before.before.before.before.before.before.before.args in
     λ s t d r. let m = marks args.srca.now args.srcb.now d r in
-    nothing_read _ m _ _ (sym c.before.before.before.before.before.before.before.before.before.before.before.enum_told.given.1 ∙ (c.before.before.before.before.before.before.before.before.before.before.before.before.before.judge-legacy.ensures.0 s)) (nothing-set m) (cleared_by m (joined args.k s) (ap (λ (x : Legacy). x.clear) c.before.before.before.before.before.before.before.before.fields.ensures) (c.before.before.before.before.unset-cleared.ensures d r))
+    nothing_read _ m _ _ (sym c.before.before.before.before.before.before.before.before.before.before.before.enum_told.given.1 ∙ (c.before.before.before.before.before.before.before.before.before.before.before.before.before.judge-legacy.ensures.0 s)) (nothing_set m) (cleared_by m (joined args.k s) (ap (λ (x : Legacy). x.clear) c.before.before.before.before.before.before.before.before.fields.ensures) (c.before.before.before.before.unset-cleared.ensures d r))
 
 pub check-legacy-spec : {M : Type 1} → statement M
 check-legacy-spec =

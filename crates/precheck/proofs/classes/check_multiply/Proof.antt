@@ -1,10 +1,10 @@
 -- `precheck::classes::check_multiply` meets its contract: the rules, then the rows that it reads, then the clear. Assumes nothing.
-use Rattle.rules.specs.Access.{reads_of, setsOf, unsetsOf}
+use Rattle.rules.specs.Access.{reads_of, sets_of, unsets_of}
 use Rattle.control.specs.Halves.{joined}
-use Rattle.precheck.specs.Instruction.{marksAfter}
+use Rattle.precheck.specs.Instruction.{marks_after}
 use Rattle.precheck.specs.Marks.{marks}
-use Rattle.precheck.proofs.ByClass.{rows-read, cleared_by}
-use Rattle.precheck.proofs.Judged.{refused, unset-read, all_read}
+use Rattle.precheck.proofs.ByClass.{rows_read_lem, cleared_by}
+use Rattle.precheck.proofs.Judged.{refused, unset_read_lem, all_read}
 use mathlib.Core.Path.{ap}
 use Rattle.word.specs.declared.Multiply.{Multiply}
 use borrow.Author.Rules.{rules}
@@ -48,11 +48,11 @@ same-length-2 : tie.Need-same-length-2
 same-length-2 c = search rules
 
 returns-2 : tie.Need-returns-2
-unfolding joined reads_of setsOf unsetsOf marksAfter
+unfolding joined reads_of sets_of unsets_of marks_after
 returns-2 c = let args = c.before.before.before.before.before.before.before.before.before.before.before.before.before.before.before.before.before.before.before.before.before.before.before.before.before.before.before.args in
     λ s r. let m = marks args.srca.now args.srcb.now args.dst.now r in
     all_read _ m _ _ (c.before.before.before.before.before.before.before.before.before.before.before.before.before.before.before.before.before.before.before.before.before.before.before.judge-multiply.ensures.0 s) c.before.before.before.before.before.before.before.before.before.before.before.before.before.before.before.before.before.before.before.before.before.enum_told.given.1
-    (rows-read m _ _ _ (c.before.before.before.before.before.before.before.before.before.before.before.before.before.before.before.before.before.before.before.before.multiply-reads.ensures s) c.before.before.before.before.before.before.before.before.before.before.before.before.before.before.before.All-set.ensures c.before.before.before.before.before.before.before.before.before.before.before.before.before.all-set2.ensures c.before.before.before.before.before.before.before.before.before.before.before.before.all-set3.ensures) c.before.before.before.before.before.before.before.before.before.before.before.if1.true
+    (rows_read_lem m _ _ _ (c.before.before.before.before.before.before.before.before.before.before.before.before.before.before.before.before.before.before.before.before.multiply-reads.ensures s) c.before.before.before.before.before.before.before.before.before.before.before.before.before.before.before.All-set.ensures c.before.before.before.before.before.before.before.before.before.before.before.before.before.all-set2.ensures c.before.before.before.before.before.before.before.before.before.before.before.before.all-set3.ensures) c.before.before.before.before.before.before.before.before.before.before.before.if1.true
     (cleared_by m (joined args.k s) (ap (λ (x : Multiply). x.clear) c.before.before.before.before.before.before.before.before.fields.ensures) (c.before.before.before.before.unset-cleared.ensures args.dst.now r))
 
 same-length-3 : tie.Need-same-length-3
@@ -65,8 +65,8 @@ returns-3 : tie.Need-returns-3
 unfolding joined reads_of
 returns-3 c = let args = c.before.before.before.before.before.before.before.before.before.before.before.before.before.before.before.before.args in
     λ s r. let m = marks args.srca.now args.srcb.now args.dst.now r in
-    unset-read _ m _ _ (c.before.before.before.before.before.before.before.before.before.before.before.before.judge-multiply.ensures.0 s) c.before.before.before.before.before.before.before.before.before.before.enum_told.given.1
-    (rows-read m _ _ _ (c.before.before.before.before.before.before.before.before.before.multiply-reads.ensures s) c.before.before.before.before.All-set.ensures c.before.before.all-set2.ensures c.before.all-set3.ensures) c.if1.false _
+    unset_read_lem _ m _ _ (c.before.before.before.before.before.before.before.before.before.before.before.before.judge-multiply.ensures.0 s) c.before.before.before.before.before.before.before.before.before.before.enum_told.given.1
+    (rows_read_lem m _ _ _ (c.before.before.before.before.before.before.before.before.before.multiply-reads.ensures s) c.before.before.before.before.All-set.ensures c.before.before.all-set2.ensures c.before.all-set3.ensures) c.if1.false _
 
 pub check-multiply-spec : {M : Type 1} → statement M
 check-multiply-spec =

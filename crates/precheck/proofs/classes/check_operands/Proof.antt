@@ -1,11 +1,11 @@
 -- `precheck::classes::check_operands` meets its contract: class by class. Assumes nothing.
 use mathlib.Core.Path.{refl, ap, ◌∙◌}
-use Rattle.rules.specs.Access.{reads_of, setsOf, unsetsOf}
-use Rattle.rules.specs.Rules.{operandRules, lowest, refusedIf}
-use Rattle.precheck.specs.Instruction.{marksAfter}
+use Rattle.rules.specs.Access.{reads_of, sets_of, unsets_of}
+use Rattle.rules.specs.Rules.{operand_rules, lowest, refused_if}
+use Rattle.precheck.specs.Instruction.{marks_after}
 use Rattle.precheck.specs.Marks.{marks}
-use Rattle.precheck.proofs.ByClass.{nothing-set, unmarked}
-use Rattle.precheck.proofs.Judged.{as-class, nothing_read}
+use Rattle.precheck.proofs.ByClass.{nothing_set, unmarked}
+use Rattle.precheck.proofs.Judged.{as_class, nothing_read}
 use lib.Dec.{leb}
 use Rattle.word.specs.declared.AddCounters.{AddCounters}
 use Rattle.word.specs.declared.Refusal.TheVariants.{UndefinedMode}
@@ -68,37 +68,37 @@ check-scalar-requires : tie.Need-check-scalar-requires
 check-scalar-requires c κs = search rules
 
 returns : tie.Need-returns
-returns c = λ s. as-class c.before.before.before.before.f.given.1 (c.check-multiply.ensures s _)
+returns c = λ s. as_class c.before.before.before.before.f.given.1 (c.check-multiply.ensures s _)
 
 returns-2 : tie.Need-returns-2
-returns-2 c = λ s. as-class c.before.before.before.before.f2.given.1 (c.check-legacy.ensures s _ _ _)
+returns-2 c = λ s. as_class c.before.before.before.before.f2.given.1 (c.check-legacy.ensures s _ _ _)
 
 returns-3 : tie.Need-returns-3
-returns-3 c = λ s. as-class c.before.before.before.before.f3.given.1 (c.check-set.ensures s _ _ _)
+returns-3 c = λ s. as_class c.before.before.before.before.f3.given.1 (c.check-set.ensures s _ _ _)
 
 returns-4 : tie.Need-returns-4
-unfolding operandRules lowest reads_of setsOf unsetsOf marksAfter
+unfolding operand_rules lowest reads_of sets_of unsets_of marks_after
 returns-4 c = let args = c.before.before.before.before.before.before.args in
     λ s. let m = marks args.srca.now args.srcb.now args.dst.now args.registers.now in
-    as-class c.before.before.before.f4.given.1 (nothing_read _ m _ _ (c.judge-counters.ensures.0 ∙ ap (λ (x : AddCounters). refusedIf (leb 1 x.mode) UndefinedMode) c.before.fields.ensures) (nothing-set m) (unmarked m))
+    as_class c.before.before.before.f4.given.1 (nothing_read _ m _ _ (c.judge-counters.ensures.0 ∙ ap (λ (x : AddCounters). refused_if (leb 1 x.mode) UndefinedMode) c.before.fields.ensures) (nothing_set m) (unmarked m))
 
 returns-5 : tie.Need-returns-5
-returns-5 c = λ s. as-class c.before.before.before.before.f5.given.1 (c.check-zero.ensures s _ _ _)
+returns-5 c = λ s. as_class c.before.before.before.before.f5.given.1 (c.check-zero.ensures s _ _ _)
 
 returns-6 : tie.Need-returns-6
-returns-6 c = λ s. as-class c.before.before.before.f6.given.1 (c.check-shift-a.ensures s _ _ _ _)
+returns-6 c = λ s. as_class c.before.before.before.f6.given.1 (c.check-shift-a.ensures s _ _ _ _)
 
 returns-7 : tie.Need-returns-7
-returns-7 c = λ s. as-class c.before.before.before.before.f7.given.1 (c.check-shift-b.ensures s _ _ _)
+returns-7 c = λ s. as_class c.before.before.before.before.f7.given.1 (c.check-shift-b.ensures s _ _ _)
 
 returns-8 : tie.Need-returns-8
-unfolding operandRules lowest reads_of setsOf unsetsOf marksAfter
+unfolding operand_rules lowest reads_of sets_of unsets_of marks_after
 returns-8 c = let args = c.before.before.before.args in
     λ s. let m = marks args.srca.now args.srcb.now args.dst.now args.registers.now in
-    as-class c.enum_told.given.1 (nothing_read _ m _ _ refl (nothing-set m) (unmarked m))
+    as_class c.enum_told.given.1 (nothing_read _ m _ _ refl (nothing_set m) (unmarked m))
 
 returns-9 : tie.Need-returns-9
-returns-9 c = λ s. as-class c.before.before.before.f8.given.1 (c.check-scalar.ensures _ _ _ _)
+returns-9 c = λ s. as_class c.before.before.before.f8.given.1 (c.check-scalar.ensures _ _ _ _)
 
 pub check-operands-spec : {M : Type 1} → statement M
 check-operands-spec =

@@ -1,11 +1,11 @@
 -- `precheck::classes::check_set` meets its contract: the mode, then the clear. Assumes nothing.
 use mathlib.Core.Path.{sym, ap, ◌∙◌}
-use Rattle.rules.specs.Access.{reads_of, setsOf, unsetsOf}
-use Rattle.rules.specs.Rules.{operandRules, lowest, refusedIf}
+use Rattle.rules.specs.Access.{reads_of, sets_of, unsets_of}
+use Rattle.rules.specs.Rules.{operand_rules, lowest, refused_if}
 use Rattle.control.specs.Halves.{joined}
-use Rattle.precheck.specs.Instruction.{marksAfter}
+use Rattle.precheck.specs.Instruction.{marks_after}
 use Rattle.precheck.specs.Marks.{marks}
-use Rattle.precheck.proofs.ByClass.{nothing-set, cleared_by}
+use Rattle.precheck.proofs.ByClass.{nothing_set, cleared_by}
 use Rattle.precheck.proofs.Judged.{nothing_read, refused}
 use lib.Dec.{leb}
 use Rattle.word.specs.declared.SetCounters.{SetCounters}
@@ -27,8 +27,8 @@ enum-told-2 : tie.Need-enum-told-2
 enum-told-2 c = search rules
 
 returns : tie.Need-returns
-unfolding operandRules lowest
-returns c = λ s t d r. refused _ _ _ _ (c.before.before.judge-counters.ensures.0 ∙ ap (λ (x : SetCounters). refusedIf (leb 1 x.mode) UndefinedMode) c.before.before.before.fields.ensures) _ c.enum-told2.given.1 _
+unfolding operand_rules lowest
+returns c = λ s t d r. refused _ _ _ _ (c.before.before.judge-counters.ensures.0 ∙ ap (λ (x : SetCounters). refused_if (leb 1 x.mode) UndefinedMode) c.before.before.before.fields.ensures) _ c.enum-told2.given.1 _
 
 unset-cleared-requires : tie.Need-unset-cleared-requires
 unset-cleared-requires c κs = search rules
@@ -40,10 +40,10 @@ same-length-2 : tie.Need-same-length-2
 same-length-2 c = search rules
 
 returns-2 : tie.Need-returns-2
-unfolding joined operandRules lowest reads_of setsOf unsetsOf marksAfter
+unfolding joined operand_rules lowest reads_of sets_of unsets_of marks_after
 returns-2 c = let args = c.before.before.before.before.before.before.before.before.before.before.before.before.before.before.before.before.args in
     λ s t d r. let m = marks args.srca.now args.srcb.now d r in
-    nothing_read _ m _ _ (sym c.before.before.before.before.before.before.before.before.before.before.enum_told.given.1 ∙ (c.before.before.before.before.before.before.before.before.before.before.before.before.judge-counters.ensures.0 ∙ ap (λ (x : SetCounters). refusedIf (leb 1 x.mode) UndefinedMode) c.before.before.before.before.before.before.before.before.before.before.before.before.before.fields.ensures)) (nothing-set m) (cleared_by m (joined args.k s) (ap (λ (x : SetCounters). x.clear) c.before.before.before.before.before.before.before.before.before.before.before.before.before.fields.ensures) (c.before.before.before.before.unset-cleared.ensures d r))
+    nothing_read _ m _ _ (sym c.before.before.before.before.before.before.before.before.before.before.enum_told.given.1 ∙ (c.before.before.before.before.before.before.before.before.before.before.before.before.judge-counters.ensures.0 ∙ ap (λ (x : SetCounters). refused_if (leb 1 x.mode) UndefinedMode) c.before.before.before.before.before.before.before.before.before.before.before.before.before.fields.ensures)) (nothing_set m) (cleared_by m (joined args.k s) (ap (λ (x : SetCounters). x.clear) c.before.before.before.before.before.before.before.before.before.before.before.before.before.fields.ensures) (c.before.before.before.before.unset-cleared.ensures d r))
 
 pub check-set-spec : {M : Type 1} → statement M
 check-set-spec =

@@ -1,13 +1,13 @@
 -- `precheck::classes::check_zero` meets its contract: what it fills is set. Assumes nothing.
 use mathlib.Core.Path.{refl, ap, ◌∙◌}
-use Rattle.rules.specs.Access.{reads_of, setsOf, unsetsOf}
-use Rattle.rules.specs.Rules.{operandRules, lowest}
-use Rattle.precheck.specs.Instruction.{marksAfter}
+use Rattle.rules.specs.Access.{reads_of, sets_of, unsets_of}
+use Rattle.rules.specs.Rules.{operand_rules, lowest}
+use Rattle.precheck.specs.Instruction.{marks_after}
 use Rattle.precheck.specs.Marks.{marks}
-use Rattle.precheck.proofs.ByClass.{nothing-set, rows-marked}
+use Rattle.precheck.proofs.ByClass.{nothing_set, rows_marked}
 use Rattle.precheck.proofs.Judged.{nothing_read}
 use Rattle.control.specs.Halves.{joined}
-use Rattle.rules.specs.ZeroSrc.{filledA, filledB}
+use Rattle.rules.specs.ZeroSrc.{filled_a, filled_b}
 use borrow.Author.Rules.{rules}
 use Rattle.precheck.proofs.classes.check_zero.Statement.{statement}
 use Rattle.precheck.proofs.classes.check_zero.Tie as tie
@@ -34,10 +34,10 @@ same-length-2 : tie.Need-same-length-2
 same-length-2 c = search rules
 
 returns : tie.Need-returns
-unfolding operandRules lowest reads_of setsOf unsetsOf marksAfter
+unfolding operand_rules lowest reads_of sets_of unsets_of marks_after
 returns c = let args = c.before.before.before.before.before.before.before.before.before.before.before.before.before.args in
     λ s t d r. let m = marks args.srca.now args.srcb.now d r in
-    nothing_read _ m _ _ refl (nothing-set m) (rows-marked m _ _ (c.before.before.before.before.before.before.before.before.before.filled-a.ensures s ∙ ap (filledA (joined args.k s)) c.before.before.before.before.before.before.before.before.before.before.fields.ensures) (c.before.before.before.before.filled-b.ensures s ∙ ap (filledB (joined args.k s)) c.before.before.before.before.before.before.before.before.before.before.fields.ensures) c.before.before.before.before.before.before.before.mark-span.ensures c.before.before.mark-span2.ensures)
+    nothing_read _ m _ _ refl (nothing_set m) (rows_marked m _ _ (c.before.before.before.before.before.before.before.before.before.filled-a.ensures s ∙ ap (filled_a (joined args.k s)) c.before.before.before.before.before.before.before.before.before.before.fields.ensures) (c.before.before.before.before.filled-b.ensures s ∙ ap (filled_b (joined args.k s)) c.before.before.before.before.before.before.before.before.before.before.fields.ensures) c.before.before.before.before.before.before.before.mark-span.ensures c.before.before.mark-span2.ensures)
 
 pub check-zero-spec : {M : Type 1} → statement M
 check-zero-spec =

@@ -1,5 +1,5 @@
 -- `precheck::marking::mark_write` meets its contract. Assumes nothing.
-use Rattle.precheck.specs.Marks.{markDst, markRegister}
+use Rattle.precheck.specs.Marks.{mark_dst, mark_register}
 use borrow.Author.Rules.{rules}
 use Rattle.precheck.proofs.marking.mark_write.Statement.{statement}
 use Rattle.precheck.proofs.marking.mark_write.Tie as tie
@@ -38,18 +38,18 @@ same_length : tie.Need-same-length
 same_length c = search rules
 
 returns-2 : tie.Need-returns-2
-unfolding markDst
+unfolding mark_dst
 returns-2 c = λ s. simp (c.before.before.mark-span.ensures, c.before.before.before.before.before.write2.given.1)
 
 returns-3 : tie.Need-returns-3
-unfolding markRegister
+unfolding mark_register
 returns-3 c = λ s. simp (c.set-one.ensures, c.before.before.register-at.ensures, c.before.before.before.before.write3.given.1)
 
 same-length-2 : tie.Need-same-length-2
 same-length-2 c = search rules
 
 returns-4 : tie.Need-returns-4
-unfolding markDst
+unfolding mark_dst
 returns-4 c = λ s. simp (c.before.before.mark-span2.ensures, c.before.before.before.before.before.write4.given.1)
 
 pub mark-write-spec : {M : Type 1} → statement M

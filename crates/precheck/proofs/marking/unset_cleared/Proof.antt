@@ -1,7 +1,7 @@
 -- `precheck::marking::unset_cleared` meets its contract: the marks are looked at only where a file is cleared. Assumes nothing.
-use Rattle.cells.proofs.Cells.{both-off}
+use Rattle.cells.proofs.Cells.{both_off}
 use Rattle.precheck.specs.Marks.{marks}
-use Rattle.precheck.proofs.ByClass.{cleared, given-off}
+use Rattle.precheck.proofs.ByClass.{cleared, given_off}
 use borrow.Author.Rules.{rules}
 use Rattle.precheck.proofs.marking.unset_cleared.Statement.{statement}
 use Rattle.precheck.proofs.marking.unset_cleared.Tie as tie
@@ -24,8 +24,8 @@ returns c = let args = c.before.before.before.before.before.before.before.before
 
 returns-2 : tie.Need-returns-2
 returns-2 c = let args = c.before.before.before.before.args in
-    let off = both-off args.clear.a args.clear.b c.if1.false in
-    λ d r. cleared (marks args.srca.now args.srcb.now d r) _ (given-off args.a args.keep-a off.0 _) (given-off args.b args.keep-b off.1 _)
+    let off = both_off args.clear.a args.clear.b c.if1.false in
+    λ d r. cleared (marks args.srca.now args.srcb.now d r) _ (given_off args.a args.keep-a off.0 _) (given_off args.b args.keep-b off.1 _)
 
 pub unset-cleared-spec : {M : Type 1} → statement M
 unset-cleared-spec =

@@ -1,6 +1,6 @@
 -- `rules::judge_operands` meets its contract: class by class. Assumes nothing.
-use Rattle.rules.proofs.Reading.{told-of-all}
-use Rattle.rules.specs.Rules.{operandRules, lowest}
+use Rattle.rules.proofs.Reading.{told_of_all}
+use Rattle.rules.specs.Rules.{operand_rules, lowest}
 use Rattle.control.specs.Halves.{Choice, joined}
 use Prim.Native.Nat.{ℕ}
 use borrow.Author.Rules.{rules}
@@ -62,49 +62,49 @@ judge-scalar-requires : tie.Need-judge-scalar-requires
 judge-scalar-requires c κs = search rules
 
 returns : tie.Need-returns
-unfolding joined operandRules lowest
+unfolding joined operand_rules lowest
 returns c = let a = c.before.before.before.before.args in
-    told-of-all (λ (s : ℕ → Choice). operandRules (joined a.k s) a.thread a.f) _ (λ s. simp (c.judge-multiply.ensures.0 s, c.before.before.f.given.1))
+    told_of_all (λ (s : ℕ → Choice). operand_rules (joined a.k s) a.thread a.f) _ (λ s. simp (c.judge-multiply.ensures.0 s, c.before.before.f.given.1))
 
 returns-2 : tie.Need-returns-2
-unfolding joined operandRules lowest
+unfolding joined operand_rules lowest
 returns-2 c = let a = c.before.before.before.args in
-    told-of-all (λ (s : ℕ → Choice). operandRules (joined a.k s) a.thread a.f) _ (λ s. simp (c.judge-legacy.ensures.0 s, c.before.enum_told.given.1))
+    told_of_all (λ (s : ℕ → Choice). operand_rules (joined a.k s) a.thread a.f) _ (λ s. simp (c.judge-legacy.ensures.0 s, c.before.enum_told.given.1))
 
 returns-3 : tie.Need-returns-3
-unfolding joined operandRules lowest
+unfolding joined operand_rules lowest
 returns-3 c = let a = c.before.before.before.before.before.args in
-    told-of-all (λ (s : ℕ → Choice). operandRules (joined a.k s) a.thread a.f) _ (λ s. simp (c.judge-counters.ensures.0, c.before.fields.ensures, c.before.before.before.f2.given.1))
+    told_of_all (λ (s : ℕ → Choice). operand_rules (joined a.k s) a.thread a.f) _ (λ s. simp (c.judge-counters.ensures.0, c.before.fields.ensures, c.before.before.before.f2.given.1))
 
 returns-4 : tie.Need-returns-4
-unfolding joined operandRules lowest
+unfolding joined operand_rules lowest
 returns-4 c = let a = c.before.before.before.before.before.args in
-    told-of-all (λ (s : ℕ → Choice). operandRules (joined a.k s) a.thread a.f) _ (λ s. simp (c.judge-counters2.ensures.0, c.before.fields2.ensures, c.before.before.before.f3.given.1))
+    told_of_all (λ (s : ℕ → Choice). operand_rules (joined a.k s) a.thread a.f) _ (λ s. simp (c.judge-counters2.ensures.0, c.before.fields2.ensures, c.before.before.before.f3.given.1))
 
 returns-5 : tie.Need-returns-5
-unfolding joined operandRules lowest
+unfolding joined operand_rules lowest
 returns-5 c = let a = c.before.before.args in
-    told-of-all (λ (s : ℕ → Choice). operandRules (joined a.k s) a.thread a.f) _ (λ s. simp (c.enum-told2.given.1))
+    told_of_all (λ (s : ℕ → Choice). operand_rules (joined a.k s) a.thread a.f) _ (λ s. simp (c.enum-told2.given.1))
 
 returns-6 : tie.Need-returns-6
-unfolding joined operandRules lowest
+unfolding joined operand_rules lowest
 returns-6 c = let a = c.before.before.before.before.args in
-    told-of-all (λ (s : ℕ → Choice). operandRules (joined a.k s) a.thread a.f) _ (λ s. simp (c.judge-shift-a.ensures.0 s, c.before.before.f4.given.1))
+    told_of_all (λ (s : ℕ → Choice). operand_rules (joined a.k s) a.thread a.f) _ (λ s. simp (c.judge-shift-a.ensures.0 s, c.before.before.f4.given.1))
 
 returns-7 : tie.Need-returns-7
-unfolding joined operandRules lowest
+unfolding joined operand_rules lowest
 returns-7 c = let a = c.before.before.before.args in
-    told-of-all (λ (s : ℕ → Choice). operandRules (joined a.k s) a.thread a.f) _ (λ s. simp (c.judge-shift-b.ensures.0, c.before.enum-told3.given.1))
+    told_of_all (λ (s : ℕ → Choice). operand_rules (joined a.k s) a.thread a.f) _ (λ s. simp (c.judge-shift-b.ensures.0, c.before.enum-told3.given.1))
 
 returns-8 : tie.Need-returns-8
-unfolding joined operandRules lowest
+unfolding joined operand_rules lowest
 returns-8 c = let a = c.before.before.args in
-    told-of-all (λ (s : ℕ → Choice). operandRules (joined a.k s) a.thread a.f) _ (λ s. simp (c.enum-told4.given.1))
+    told_of_all (λ (s : ℕ → Choice). operand_rules (joined a.k s) a.thread a.f) _ (λ s. simp (c.enum-told4.given.1))
 
 returns-9 : tie.Need-returns-9
-unfolding joined operandRules lowest
+unfolding joined operand_rules lowest
 returns-9 c = let a = c.before.before.before.before.args in
-    told-of-all (λ (s : ℕ → Choice). operandRules (joined a.k s) a.thread a.f) _ (λ s. simp (c.judge-scalar.ensures.0, c.before.before.f5.given.1))
+    told_of_all (λ (s : ℕ → Choice). operand_rules (joined a.k s) a.thread a.f) _ (λ s. simp (c.judge-scalar.ensures.0, c.before.before.f5.given.1))
 
 pub judge-operands-spec : {M : Type 1} → statement M
 judge-operands-spec =

@@ -1,20 +1,20 @@
 -- `rules::multiply::judge_multiply` meets its contract. Assumes nothing.
-use Rattle.rules.proofs.ByCore.{row-dst-by}
-use Rattle.rules.specs.Multiply.{multiplyModes, modelled, rowDst}
-use Rattle.rules.specs.Rules.{bothOwned, Judged, ◌when◌, operandRules, lowest, verdictAnswer, lowestAnswer}
+use Rattle.rules.proofs.ByCore.{row_dst_by}
+use Rattle.rules.specs.Multiply.{multiply_modes, modelled, row_dst}
+use Rattle.rules.specs.Rules.{both_owned, Judged, ◌when◌, operand_rules, lowest, verdict_answer, lowest_answer}
 use Rattle.rules.specs.declared.Verdict.{Verdict}
 use Rattle.word.specs.declared.Refusal.TheVariants.{UndefinedMode, UnmodelledSettings, BankOwner, DstRow}
 use Rattle.word.specs.declared.Multiply.{Multiply}
 use Rattle.word.specs.declared.MultiplyWord.{MultiplyWord}
-use Rattle.word.specs.Operands.{multiplyOf}
-use Rattle.cells.specs.Places.{rowCount}
+use Rattle.word.specs.Operands.{multiply_of}
+use Rattle.cells.specs.Places.{row_count}
 use Rattle.control.specs.declared.Core.{Core}
 use Rattle.control.specs.declared.Control.{Control}
 use Rattle.control.specs.Record.{width_of}
 use mathlib.Core.Bool.{not}
 use mathlib.Core.List.{List, [], ◌∷◌}
 use lib.Dec.{leb}
-use Rattle.rules.proofs.Reading.{told-of-all}
+use Rattle.rules.proofs.Reading.{told_of_all}
 use Rattle.word.specs.declared.Operands.TheVariants as operands
 use Rattle.control.specs.Halves.{Choice, joined}
 use Prim.Native.Nat.{ℕ}
@@ -27,19 +27,19 @@ use Rattle.rules.proofs.multiply.judge_multiply.Tie as tie
 -- the rules by the fields of the word
 abbrev ruled : Control → ℕ → Multiply → List Judged
 ruled c t m =
-    (UndefinedMode when leb (multiplyModes m.height) m.mode) ∷
+    (UndefinedMode when leb (multiply_modes m.height) m.mode) ∷
     (UnmodelledSettings when not (modelled c.settings)) ∷
-    (BankOwner when not (bothOwned c)) ∷
-    (DstRow when leb (rowCount (width_of c.settings)) (rowDst c t m.height m.dst)) ∷
+    (BankOwner when not (both_owned c)) ∷
+    (DstRow when leb (row_count (width_of c.settings)) (row_dst c t m.height m.dst)) ∷
     []
 
-told : (k : Core) (t : ℕ) (w : MultiplyWord) {m : Multiply} {v : Verdict} → m ≡ multiplyOf w
+told : (k : Core) (t : ℕ) (w : MultiplyWord) {m : Multiply} {v : Verdict} → m ≡ multiply_of w
     → ((s : ℕ → Choice) → v ≡ lowest (ruled (joined k s) t m))
-    → ((s : ℕ → Choice) → v ≡ lowest (operandRules (joined k s) t (operands.Multiply w)))
-    × ((s : ℕ → Choice) → verdictAnswer v ≡ lowestAnswer (operandRules (joined k s) t (operands.Multiply w)))
-unfolding operandRules
+    → ((s : ℕ → Choice) → v ≡ lowest (operand_rules (joined k s) t (operands.Multiply w)))
+    × ((s : ℕ → Choice) → verdict_answer v ≡ lowest_answer (operand_rules (joined k s) t (operands.Multiply w)))
+unfolding operand_rules
 told k t w {m} {v} e h =
-    told-of-all (λ (s : ℕ → Choice). operandRules (joined k s) t (operands.Multiply w)) v
+    told_of_all (λ (s : ℕ → Choice). operand_rules (joined k s) t (operands.Multiply w)) v
     (λ s. subst (λ (m : Multiply). v ≡ lowest (ruled (joined k s) t m)) e (h s))
 
 fields-requires : tie.Need-fields-requires
@@ -74,7 +74,7 @@ refused-if-requires c κs = search rules
 returns-2 : tie.Need-returns-2
 unfolding joined lowest
 returns-2 c = let a = c.before.before.before.before.before.before.before.before.before.before.before.before.before.args in let e = c.before.before.before.before.before.before.before.before.before.before.before.before.fields.ensures in
-    told a.k a.thread a.w e (λ s. simp (← c.before.before.before.before.before.before.before.before.before.before.before.multiply-modes.ensures, lt-leb _ _ c.before.before.before.before.before.before.before.before.before.if1.false, ← c.before.before.before.before.before.before.before.is-modelled.ensures, c.before.before.before.before.before.before.if2.true, ← c.before.before.before.before.before.both_owned.ensures s, c.before.before.before.before.if3.true, c.refused-if.ensures.0, c.before.past_end.ensures, c.before.before.row-dst.ensures ∙ row-dst-by a.k s a.thread c.before.before.before.own_at.ensures c.before.before.before.before.before.before.before.before.before.before.before.before.fields.result.height c.before.before.before.before.before.before.before.before.before.before.before.before.fields.result.dst))
+    told a.k a.thread a.w e (λ s. simp (← c.before.before.before.before.before.before.before.before.before.before.before.multiply-modes.ensures, lt-leb _ _ c.before.before.before.before.before.before.before.before.before.if1.false, ← c.before.before.before.before.before.before.before.is-modelled.ensures, c.before.before.before.before.before.before.if2.true, ← c.before.before.before.before.before.both_owned.ensures s, c.before.before.before.before.if3.true, c.refused-if.ensures.0, c.before.past_end.ensures, c.before.before.row-dst.ensures ∙ row_dst_by a.k s a.thread c.before.before.before.own_at.ensures c.before.before.before.before.before.before.before.before.before.before.before.before.fields.result.height c.before.before.before.before.before.before.before.before.before.before.before.before.fields.result.dst))
 
 returns-3 : tie.Need-returns-3
 unfolding joined lowest

@@ -1,5 +1,5 @@
 -- `rules::multiply::multiply_reads` meets its contract. Assumes nothing.
-use Rattle.rules.proofs.ByCore.{row-a-by, row-b-by, row-dst-by}
+use Rattle.rules.proofs.ByCore.{row_a_by, row_b_by, row_dst_by}
 use Rattle.rules.specs.Access.{reads_of}
 use Rattle.control.specs.Halves.{joined}
 use mathlib.Core.Path.{◌∙◌}
@@ -37,7 +37,7 @@ no-reads-requires c κs = search rules
 returns : tie.Need-returns
 unfolding joined reads_of
 returns c = λ s. let a = c.before.before.before.before.before.before.before.before.before.args in let e = c.before.before.before.before.before.before.before.own_at.ensures in
-    simp (c.no_reads.ensures, c.before.row-dst.ensures ∙ row-dst-by a.k s a.thread e c.before.before.before.before.before.before.before.before.fields.result.height c.before.before.before.before.before.before.before.before.fields.result.dst, c.before.before.bank-row2.ensures, c.before.before.before.row-b.ensures ∙ row-b-by a.k s a.thread e, c.before.before.before.before.bank-row.ensures, c.before.before.before.before.before.row-a.ensures ∙ row-a-by a.k s a.thread e, c.before.before.before.before.before.before.height-rows.ensures, c.before.before.before.before.before.before.before.before.fields.ensures)
+    simp (c.no_reads.ensures, c.before.row-dst.ensures ∙ row_dst_by a.k s a.thread e c.before.before.before.before.before.before.before.before.fields.result.height c.before.before.before.before.before.before.before.before.fields.result.dst, c.before.before.bank-row2.ensures, c.before.before.before.row-b.ensures ∙ row_b_by a.k s a.thread e, c.before.before.before.before.bank-row.ensures, c.before.before.before.before.before.row-a.ensures ∙ row_a_by a.k s a.thread e, c.before.before.before.before.before.before.height-rows.ensures, c.before.before.before.before.before.before.before.before.fields.ensures)
 
 pub multiply-reads-spec : {M : Type 1} → statement M
 multiply-reads-spec =

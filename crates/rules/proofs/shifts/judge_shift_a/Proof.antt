@@ -1,6 +1,6 @@
 -- `rules::shifts::judge_shift_a` meets its contract. Assumes nothing.
-use Rattle.rules.specs.Rules.{operandRules, lowest}
-use Rattle.rules.proofs.Reading.{told-of-all}
+use Rattle.rules.specs.Rules.{operand_rules, lowest}
+use Rattle.rules.proofs.Reading.{told_of_all}
 use Rattle.word.specs.declared.Operands.TheVariants as operands
 use Rattle.control.specs.Halves.{Choice, joined}
 use Prim.Native.Nat.{ℕ}
@@ -13,9 +13,9 @@ mode-requires : tie.Need-mode-requires
 mode-requires c κs = search rules
 
 returns : tie.Need-returns
-unfolding joined operandRules lowest
+unfolding joined operand_rules lowest
 returns c = let a = c.before.before.args in
-    told-of-all (λ (s : ℕ → Choice). operandRules (joined a.k s) 0 (operands.ShiftA a.w)) _ (λ s. simp (← c.before.mode.ensures, lt-ltb _ _ c.if1.true))
+    told_of_all (λ (s : ℕ → Choice). operand_rules (joined a.k s) 0 (operands.ShiftA a.w)) _ (λ s. simp (← c.before.mode.ensures, lt-ltb _ _ c.if1.true))
 
 matrix-owns-requires : tie.Need-matrix-owns-requires
 matrix-owns-requires c κs = search rules
@@ -24,9 +24,9 @@ refused-if-requires : tie.Need-refused-if-requires
 refused-if-requires c κs = search rules
 
 returns-2 : tie.Need-returns-2
-unfolding joined operandRules lowest
+unfolding joined operand_rules lowest
 returns-2 c = let a = c.before.before.before.before.before.args in
-    told-of-all (λ (s : ℕ → Choice). operandRules (joined a.k s) 0 (operands.ShiftA a.w)) _ (λ s. simp (← c.before.before.before.before.mode.ensures, le-ltb _ _ c.before.before.before.if1.false, c.refused-if.ensures.0, c.before.matrix-owns.ensures))
+    told_of_all (λ (s : ℕ → Choice). operand_rules (joined a.k s) 0 (operands.ShiftA a.w)) _ (λ s. simp (← c.before.before.before.before.mode.ensures, le-ltb _ _ c.before.before.before.if1.false, c.refused-if.ensures.0, c.before.matrix-owns.ensures))
 
 pub judge-shift-a-spec : {M : Type 1} → statement M
 judge-shift-a-spec =

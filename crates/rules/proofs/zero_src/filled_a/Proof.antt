@@ -1,5 +1,5 @@
 -- `rules::zero_src::filled_a` meets its contract. Assumes nothing.
-use Rattle.rules.specs.ZeroSrc.{filledA}
+use Rattle.rules.specs.ZeroSrc.{filled_a}
 use Rattle.control.specs.Halves.{joined}
 use borrow.Author.Rules.{rules}
 use Rattle.rules.proofs.zero_src.filled_a.Statement.{statement}
@@ -9,14 +9,14 @@ filled-in-requires : tie.Need-filled-in-requires
 filled-in-requires c κs = search rules
 
 returns : tie.Need-returns
-unfolding joined filledA
+unfolding joined filled_a
 returns c = λ s. simp (c.before.if1.true, c.Filled-in.ensures)
 
 no-span-requires : tie.Need-no-span-requires
 no-span-requires c κs = search rules
 
 returns-2 : tie.Need-returns-2
-unfolding joined filledA
+unfolding joined filled_a
 returns-2 c = λ s. simp (c.before.if1.false, c.no_span.ensures)
 
 pub filled-a-spec : {M : Type 1} → statement M

@@ -1,9 +1,9 @@
 -- `run::writing::load_src` meets its contract. Assumes nothing.
-use Rattle.walk.specs.FieldRecord.{banksOf, loadedRows}
+use Rattle.walk.specs.FieldRecord.{banks_of, loaded_rows}
 use Rattle.job.specs.Loading.{loaded}
 use Rattle.control.specs.Halves.{joined}
 use Rattle.control.specs.declared.Control.{Control}
-use Rattle.cells.specs.Layout.{span, bankRow}
+use Rattle.cells.specs.Layout.{span, bank_row}
 use Rattle.cells.specs.State.{state}
 use Rattle.cells.specs.declared.Width.TheVariants.{Bits32}
 use Rattle.cells.specs.declared.layout.Span.{Span}
@@ -16,7 +16,7 @@ use Rattle.run.proofs.writing.load_src.Statement.{statement}
 use Rattle.run.proofs.writing.load_src.Tie as tie
 
 -- rows counted from the start of the unpackers' bank
-from-bank : (c : Control) (file : File) (rows : Span) (b : ℕ) → b ≡ bankRow (banksOf c file).unpack 0 → span (b + rows.first) rows.count ≡ loadedRows c file rows
+from-bank : (c : Control) (file : File) (rows : Span) (b : ℕ) → b ≡ bank_row (banks_of c file).unpack 0 → span (b + rows.first) rows.count ≡ loaded_rows c file rows
 from-bank c file rows b e = ap (λ (n : ℕ). span n rows.count) (omega (arith, e))
 
 bank-start-requires : tie.Need-bank-start-requires

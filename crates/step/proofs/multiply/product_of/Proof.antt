@@ -1,6 +1,6 @@
 -- `step::multiply::product_of` meets its contract. Assumes nothing.
-use Rattle.step.specs.Multiply.{productOf}
-use Rattle.rules.proofs.ByCore.{row-a-by, row-b-by, row-dst-by, phase-by}
+use Rattle.step.specs.Multiply.{product_of}
+use Rattle.rules.proofs.ByCore.{row_a_by, row_b_by, row_dst_by, phase_by}
 use Rattle.control.specs.Halves.{joined}
 use mathlib.Core.Path.{◌∙◌}
 use borrow.Author.Rules.{rules}
@@ -35,9 +35,9 @@ height-rows-requires : tie.Need-height-rows-requires
 height-rows-requires c κs = search rules
 
 returns : tie.Need-returns
-unfolding joined productOf
+unfolding joined product_of
 returns c = λ s. let a = c.before.before.before.before.before.before.before.before.before.before.args in let e = c.before.before.before.before.before.before.before.before.before.own_at.ensures in
-    simp (c.height-rows.ensures, c.before.row-dst.ensures ∙ row-dst-by a.k s a.thread e a.m.height a.m.dst, c.before.before.bank-row2.ensures, c.before.before.before.row-b.ensures ∙ row-b-by a.k s a.thread e, c.before.before.before.before.bank-row.ensures, c.before.before.before.before.before.row-a.ensures ∙ row-a-by a.k s a.thread e, c.before.before.before.before.before.before.phase-of.ensures ∙ phase-by a.k s a.thread e, c.before.before.before.before.before.before.before.width_of_lem.ensures)
+    simp (c.height-rows.ensures, c.before.row-dst.ensures ∙ row_dst_by a.k s a.thread e a.m.height a.m.dst, c.before.before.bank-row2.ensures, c.before.before.before.row-b.ensures ∙ row_b_by a.k s a.thread e, c.before.before.before.before.bank-row.ensures, c.before.before.before.before.before.row-a.ensures ∙ row_a_by a.k s a.thread e, c.before.before.before.before.before.before.phase-of.ensures ∙ phase_by a.k s a.thread e, c.before.before.before.before.before.before.before.width_of_lem.ensures)
 
 pub product-of-spec : {M : Type 1} → statement M
 product-of-spec =

@@ -1,5 +1,5 @@
 -- `step::shifts::shift_left` meets its contract. Assumes nothing.
-use Rattle.cells.proofs.Cells.{length_over, over-between-none, turn, ahead}
+use Rattle.cells.proofs.Cells.{length_over, over_between_none, turn, ahead}
 use Rattle.cells.specs.Cells.{over, between}
 use borrow.Author.Tests.{eq-eqb, ne_eqb}
 use lib.ListN.{length, get_or}
@@ -17,8 +17,8 @@ use Rattle.step.proofs.shifts.shift_left.Tie as tie
 abbrev from-left : ℕ → ℕ → List ℕ → ℕ → ℕ
 from-left gap end l p = cond (eqb (p % 16) 15) end (get_or l (p + gap + 1) 0)
 
-at-end : (gap end : ℕ) (l : List ℕ) (p : ℕ) → p % 16 ≡ 15 → from-left gap end l p ≡ end
-at-end gap end l p h = simp (eq-eqb (p % 16) 15 h)
+at_end : (gap end : ℕ) (l : List ℕ) (p : ℕ) → p % 16 ≡ 15 → from-left gap end l p ≡ end
+at_end gap end l p h = simp (eq-eqb (p % 16) 15 h)
 
 before-end : (gap end : ℕ) (l : List ℕ) (p : ℕ) → (p % 16 ≡ 15 → ⊥) → from-left gap end l p ≡ get_or l (p + gap + 1) 0
 before-end gap end l p h = simp (ne_eqb (p % 16) 15 h)
@@ -30,7 +30,7 @@ abbrev decreases-loop : tie.decreases-loop
 decreases-loop lo hi gap end file₀ p₀ file p = hi - p
 
 loop-holds : tie.Need-loop-init invariant-loop decreases-loop
-loop-holds c = (sym (over-between-none _ 0 _ _), omega arith, omega arith)
+loop-holds c = (sym (over_between_none _ 0 _ _), omega arith, omega arith)
 
 mul-file : tie.Need-overflow-mul-file invariant-loop decreases-loop
 mul-file c = let e : length c.before.before.loop.file ≡ length c.before.before.before.args.file.now = ap length c.before.before.loop.invariant.0 ∙ length_over _ _ _ in omega arith
@@ -70,7 +70,7 @@ loop-again c = let l = c.before.before.loop in
     let lo : a.lo ≤ l.p = omega arith in
     let inside : l.p < length a.file.now = omega arith in
     ⊎_elim
-    (λ w. (w.1 ∙ turn 0 f a.file.now l.file a.lo l.p a.end lo inside l.invariant.0 (sym (at-end a.gap a.end a.file.now l.p w.0.taken)), omega arith, omega arith))
+    (λ w. (w.1 ∙ turn 0 f a.file.now l.file a.lo l.p a.end lo inside l.invariant.0 (sym (at_end a.gap a.end a.file.now l.p w.0.taken)), omega arith, omega arith))
     (λ w. (
       w.2 ∙ turn 0 f a.file.now l.file a.lo l.p _ lo inside l.invariant.0
           (ahead 0 f a.file.now l.file a.lo l.p (l.p + a.gap + 1) (omega arith) l.invariant.0

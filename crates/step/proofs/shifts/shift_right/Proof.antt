@@ -1,5 +1,5 @@
 -- `step::shifts::shift_right` meets its contract. Assumes nothing.
-use Rattle.cells.proofs.Cells.{split, length_over, over-between-none, turn, ahead}
+use Rattle.cells.proofs.Cells.{split, length_over, over_between_none, turn, ahead}
 use Rattle.cells.specs.Cells.{over, between}
 use borrow.Author.Tests.{eqb-false}
 use lib.ListN.{length, get_or}
@@ -28,7 +28,7 @@ abbrev decreases-loop : tie.decreases-loop
 decreases-loop lo hi gap file₀ held₀ p₀ file held p = hi - p
 
 loop-holds : tie.Need-loop-init invariant-loop decreases-loop
-loop-holds c = (sym (over-between-none _ 0 _ _), omega arith, omega arith, λ h. absurd (h (omega arith)))
+loop-holds c = (sym (over_between_none _ 0 _ _), omega arith, omega arith, λ h. absurd (h (omega arith)))
 
 add-next : tie.Need-overflow-add-next invariant-loop decreases-loop
 add-next c = let e : length c.before.loop.file ≡ length c.before.before.before.args.file.now = ap length c.before.loop.invariant.0 ∙ length_over _ _ _ in omega arith

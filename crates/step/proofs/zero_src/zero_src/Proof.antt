@@ -1,5 +1,5 @@
 -- `step::zero_src::zero_src` meets its contract. Assumes nothing.
-use Rattle.cells.specs.Places.{overAt}
+use Rattle.cells.specs.Places.{over_at}
 use mathlib.Core.Path.{◌∙◌}
 use borrow.Author.Rules.{rules}
 use Rattle.step.proofs.zero_src.zero_src.Statement.{statement}
@@ -27,7 +27,7 @@ same-length-2 : tie.Need-same-length-2
 same-length-2 c = search rules
 
 returns : tie.Need-returns
-unfolding overAt
+unfolding over_at
 returns c = λ s. (c.before.before.before.before.before.before.before.fill-rows.ensures ∙ simp (c.before.before.before.before.before.before.before.before.before.before.filled-a.ensures s, c.before.before.before.before.before.before.before.before.before.fill-a.ensures), c.before.before.fill-rows2.ensures ∙ simp (c.before.before.before.before.filled-b.ensures s))
 
 pub zero-src-spec : {M : Type 1} → statement M

@@ -1,18 +1,18 @@
 -- `word::reader::read_word` meets its contract. Assumes nothing.
 use mathlib.Core.Path.{◌≡◌, sym, ap, ◌∙◌}
 use Prim.Native.Nat.{ℕ}
-use Rattle.word.specs.Word.{readWord}
-use Rattle.word.specs.Fields.{readAnswer, wordAnswer}
+use Rattle.word.specs.Word.{read_word}
+use Rattle.word.specs.Fields.{read_answer, word_answer}
 use Rattle.word.specs.declared.Read.{Read}
 use Rattle.word.proofs.ReadWords.{read_none, read_at}
-use Rattle.word.proofs.FieldNumbers.{read_answer}
+use Rattle.word.proofs.FieldNumbers.{read_answer_lem}
 use borrow.Author.Rules.{rules}
 use Rattle.word.proofs.reader.read_word.Statement.{statement}
 use Rattle.word.proofs.reader.read_word.Tie as tie
 
 -- the numbers go by the answer
-told : (w : ℕ) {r : Read} → r ≡ readWord w → (r ≡ readWord w) × (readAnswer r ≡ wordAnswer w)
-told w e = (e, ap readAnswer e ∙ read_answer w)
+told : (w : ℕ) {r : Read} → r ≡ read_word w → (r ≡ read_word w) × (read_answer r ≡ word_answer w)
+told w e = (e, ap read_answer e ∙ read_answer_lem w)
 
 find-requires : tie.Need-find-requires
 find-requires c κs = search rules

@@ -1,7 +1,7 @@
 -- `word::table::find` meets its contract: each arm gives the table's row of its opcode, and past the arms no row has the opcode. Assumes nothing.
 use mathlib.Core.Path.{◌≡◌, sym, ap}
 use Prim.Native.Nat.{ℕ}
-use Rattle.word.specs.Entries.{foundOf}
+use Rattle.word.specs.Entries.{found_of}
 use Rattle.word.specs.Table.{table, lookup}
 use Rattle.word.proofs.Rule.{away}
 use borrow.Author.Rules.{rules}
@@ -9,8 +9,8 @@ use Rattle.word.proofs.table.find.Statement.{statement}
 use Rattle.word.proofs.table.find.Tie as tie
 
 -- the row of an arm's opcode, computed in the table
-row : {op n : ℕ} → op ≡ n → foundOf (lookup table n) ≡ foundOf (lookup table op)
-row e = sym (ap (λ (op : ℕ). foundOf (lookup table op)) e)
+row : {op n : ℕ} → op ≡ n → found_of (lookup table n) ≡ found_of (lookup table op)
+row e = sym (ap (λ (op : ℕ). found_of (lookup table op)) e)
 
 array-copy-out-t47 : tie.Need-array-copy-out-t47
 array-copy-out-t47 c = search rules
@@ -154,7 +154,7 @@ returns-20 c = row c.before.match.keys20
 
 returns-21 : tie.Need-returns-21
 unfolding table
-returns-21 c = sym (ap foundOf (away table c.before.args.opcode Unit c.match.rest).1)
+returns-21 c = sym (ap found_of (away table c.before.args.opcode Unit c.match.rest).1)
 
 pub find_spec : {M : Type 1} → statement M
 find_spec =
