@@ -1,4 +1,6 @@
 // The C interface: the pre-check, the job run and the single step under plain names, each answer packed into one number (include/vintrazzola.h).
+#![tactic(auto)]
+
 mod packing;
 
 ghost use Rattle.std.specs.Prelude.{◌≡◌};

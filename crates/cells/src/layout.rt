@@ -34,14 +34,14 @@ pub const DST_NUMBERS: usize = DST_ROWS as usize * COLUMNS;
 pub const REGISTERS: usize = THREADS as usize * THREAD_REGISTERS as usize;
 
 // The two Src files.
-#[derive(Drop)]
+#[derive(Clone, Copy)]
 pub enum File {
     A,
     B,
 }
 
 // `count` rows, or registers, from `first` on.
-#[derive(Drop)]
+#[derive(Clone, Copy)]
 pub struct Span {
     pub first: u32,
     pub count: u32,

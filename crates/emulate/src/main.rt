@@ -1,4 +1,6 @@
 // Reads a job from standard input, runs it on files of zeros, and prints its count and its lines, or the refusal.
+#![tactic(auto)]
+
 use show::End;
 
 fn run_job(job: &[u8]) -> End {

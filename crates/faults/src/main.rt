@@ -1,5 +1,7 @@
 // Reads and writes where it cannot, and prints what `show` answers: standard output is open for writing alone, standard
 // input for reading alone. A failed read has to be told from the end of the input, and no failed write passes for one.
+#![tactic(auto)]
+
 use lines::Text;
 use run::Outcome;
 use word::Refusal;

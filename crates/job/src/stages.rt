@@ -8,7 +8,7 @@ use crate::{Cause, Kind, Shape};
 use cells::JOB_BYTES;
 
 // A job opens with its settings, then fields act, then it prints.
-#[derive(Drop)]
+#[derive(Clone, Copy)]
 pub enum Stage {
     Opening,
     Acting,
@@ -16,7 +16,7 @@ pub enum Stage {
 }
 
 // The stage after a field, or why the field is wrong.
-#[derive(Drop)]
+#[derive(Clone, Copy)]
 pub enum Placed {
     InPlace(Stage),
     NotRight(Cause),

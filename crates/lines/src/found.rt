@@ -8,13 +8,13 @@ use cells::Width;
 use job::{Kind, Output};
 
 // What a line shows: a row of Dst with its width, or a register.
-#[derive(Drop)]
+#[derive(Clone, Copy)]
 pub(crate) enum What {
     Row { width: Width, row: u32 },
     Register { thread: u8, register: u8 },
 }
 
-#[derive(Drop)]
+#[derive(Clone, Copy)]
 pub(crate) enum Found {
     Line { what: What, after: Cursor },
     End,

@@ -1,4 +1,6 @@
 // All that a run prints, one text at a time: its answer and, of a finished job, its lines. A program only loops and writes.
+#![tactic(auto)]
+
 mod compose;
 mod found;
 mod write;
@@ -16,14 +18,14 @@ use precheck::Checked;
 use run::Outcome;
 
 // The first `len` bytes count.
-#[derive(Drop)]
+#[derive(Clone, Copy)]
 pub struct Text {
     pub bytes: [u8; 160],
     pub len: usize,
 }
 
 // Whether the answer was read; then a field's place, and how many of the lines from there on were read.
-#[derive(Drop)]
+#[derive(Clone, Copy)]
 pub struct Cursor {
     pub answered: bool,
     pub at: usize,
@@ -31,7 +33,7 @@ pub struct Cursor {
 }
 
 // A text and the cursor after it; at the end there is none, and the text is empty.
-#[derive(Drop)]
+#[derive(Clone, Copy)]
 pub struct Next {
     pub end: bool,
     pub text: Text,

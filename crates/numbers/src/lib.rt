@@ -1,4 +1,6 @@
 // The control record as numbers in a slice: read, and written back but for the address slots. Their order is that of specs/Lists.antt and of include/vintrazzola.h.
+#![tactic(auto)]
+
 mod lists;
 mod places;
 mod record;

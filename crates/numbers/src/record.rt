@@ -109,7 +109,7 @@ fn stand(n: &[u32], b: usize, part: &[u32]) -> bool
 }
 
 // A thread, and whether its numbers are those that it was read from.
-#[derive(Drop)]
+#[derive(Clone, Copy)]
 struct Found {
     thread: Thread,
     same: bool,

@@ -6,7 +6,7 @@ ghost use Rattle.show.specs.Ends.{run_end, check_end, told_end, status_of};
 use precheck::Checked;
 use run::Outcome;
 
-#[derive(Drop)]
+#[derive(Clone, Copy)]
 pub enum End {
     Done,
     Refused,

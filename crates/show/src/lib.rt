@@ -1,4 +1,6 @@
 // What the programs do around the proved work: they read the input, write texts, and say how they ended.
+#![tactic(auto)]
+
 mod end;
 mod input;
 

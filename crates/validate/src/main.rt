@@ -1,4 +1,6 @@
 // Reads a job from standard input and prints whether the pre-check passes it; it runs nothing.
+#![tactic(auto)]
+
 use show::End;
 
 fn check_job(job: &[u8]) -> End {

@@ -1,5 +1,7 @@
 // Runs the stored jobs: standard input holds one job after another, each behind its length in two bytes, the low byte
 // first. Each job runs on files of zeros, and what it prints stands below a line `-- N` with its index.
+#![tactic(auto)]
+
 ghost use Rattle.std.specs.Prelude.{◌<◌};
 
 fn run_job(job: &[u8]) -> bool {

@@ -1,4 +1,6 @@
 // What a field makes of the core of the control record, for the pre-check and for the job run, which both walk over a job's fields.
+#![tactic(auto)]
+
 ghost use Rattle.std.specs.Prelude.{◌≡◌, ℕ, ◌<◌, ◌^◌};
 ghost use Rattle.cells.specs.Layout.{bank_row};
 ghost use Rattle.control.specs.Halves.{Choice, joined};

@@ -6,7 +6,7 @@ ghost use Rattle.word.specs.Entries.{found_of, masked, masked_bit};
 use crate::Class;
 
 // A row: an opcode, the bits that may be 1, and the class.
-#[derive(Drop)]
+#[derive(Clone, Copy)]
 pub(crate) struct Entry(pub u32, pub u32, pub Class);
 
 const ENTRIES: usize = 20;
@@ -35,7 +35,7 @@ const TABLE: [Entry; ENTRIES] = [
 ];
 
 // The row of an opcode, as the table keeps it.
-#[derive(Drop)]
+#[derive(Clone, Copy)]
 pub(crate) enum Found {
     At(Entry),
     Nothing,
