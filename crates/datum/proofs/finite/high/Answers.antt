@@ -6,25 +6,13 @@ use mathlib.Core.Bool.{Bool}
 use Rattle.datum.specs.Part.{bits_of}
 use Rattle.datum.proofs.Places.{sign_at}
 use Rattle.datum.proofs.Parts.{high_built}
-use borrow.Author.Rules.{rules}
-use Rattle.datum.proofs.finite.high.Statement.{statement}
-use Rattle.datum.proofs.finite.high.Tie as tie
+use Rattle.datum.proofs.finite.high.Goals as goal
 
-add-result : tie.Need-overflow-add-result
-add-result c = search rules
-
-mul-result : tie.Need-overflow-mul-result
-mul-result c = search rules
-
-returns : tie.Need-returns
-returns c =
-    let h = c.args.head in
+pub returns : goal.returns
+returns c = let h = c.args.head in
     let k = c.args.bits in
     λ e0 e1.
     let same : (h + k) * 8192 ≡ h / 1024 * 8388608 + k * 8192 = omega arith in
     same
     ∙ high_built (h / 1024) k (omega arith) e0 e1 (omega arith)
     ∙ ap (λ (s : Bool). bits_of s (1024 + k) (h / 1024 % 256)) (sign_at h (omega arith))
-
-pub high-spec : {M : Type 1} → statement M
-high-spec = tie.close (tie.spec add-result mul-result returns)

@@ -1,0 +1,45 @@
+-- `datum::read` meets its contract, kind by kind. Assumes nothing.
+-- the slices go by the kind
+use mathlib.Core.Path.{◌≡◌, sym, ap, ◌∙◌}
+use Prim.Native.Nat.{ℕ}
+use native.Mathlib.Omega.{arith}
+use borrow.Author.Tests.{ne_eqb}
+use Rattle.cells.specs.declared.layout.File.{File}
+use Rattle.datum.specs.Read.{sign_of, exponent_of, mantissa_of, datum_of, datum_slices, number_slices}
+use Rattle.datum.specs.declared.Datum.{Datum}
+use Rattle.datum.specs.declared.Datum.TheVariants.{Finite}
+use Rattle.datum.proofs.Places.{own_fields, finite_exponent}
+use Rattle.datum.proofs.Parts.{mantissa_digits, patterns_numbers, patterns_split}
+use Rattle.datum.proofs.ReadSlices.{kind_slices}
+use Rattle.datum.proofs.read.Goals as goal
+
+told : (f : File) (format x : ℕ) {r : Datum} → r ≡ datum_of f format x → (r ≡ datum_of f format x) × (datum_slices r ≡ number_slices f format x)
+told f format x e = (e, ap datum_slices e ∙ kind_slices f (sign_of x) (exponent_of x) (mantissa_of format x))
+
+pub returns-then-m-eq0 : goal.returns-then-m-eq0
+returns-then-m-eq0 c = let a = c.args in
+    let e : exponent_of a.x ≡ 255 = omega (arith, c.if-e.true) in
+    let z : mantissa_of a.format a.x ≡ 0 = sym c.mantissa-m.ensures.0 ∙ c.if-m-eq0.true in
+    told a.file a.format a.x (sym (simp (e, z)))
+
+pub returns-then-e : goal.returns-then-e
+returns-then-e c = let a = c.args in
+    let e : exponent_of a.x ≡ 255 = omega (arith, c.if-e.true) in
+    told a.file a.format a.x (simp (e, ne_eqb (mantissa_of a.format a.x) 0 (λ z. c.if-m-eq0.false (c.mantissa-m.ensures.0 ∙ z))))
+
+pub returns-then-e-eq0 : goal.returns-then-e-eq0
+returns-then-e-eq0 c = let a = c.args in
+    let e : exponent_of a.x ≡ 0 = omega (arith, c.if-e-eq0.true) in
+    told a.file a.format a.x (simp e)
+
+pub numbers-requires : goal.numbers-requires
+numbers-requires c = let a = c.args in
+    let e = finite_exponent a.x c.if-e-eq0.false c.if-e.false in
+    patterns_numbers _ a.file (sign_of a.x) (exponent_of a.x) (mantissa_of a.format a.x) (own_fields _ a.file a.format a.x c.build-p.ensures e.0 e.1) (mantissa_digits a.format a.x) e.1
+
+pub returns : goal.returns
+returns c = let a = c.args in
+    let e = finite_exponent a.x c.if-e-eq0.false c.if-e.false in
+    let p = patterns_split _ a.file (sign_of a.x) (exponent_of a.x) (mantissa_of a.format a.x) (own_fields _ a.file a.format a.x c.build-p.ensures e.0 e.1) (mantissa_digits a.format a.x) e.1 in
+    told a.file a.format a.x
+    (rw (ne_eqb (exponent_of a.x) 0 (λ z. omega (arith, e.0, z)), ne_eqb (exponent_of a.x) 255 (λ z. omega (arith, e.1, z))) (ap Finite (c.numbers.ensures ∙ p)))
