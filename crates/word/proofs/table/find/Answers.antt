@@ -92,4 +92,4 @@ returns-in-93 c = row c.in-93.is
 
 pub returns-in_default : goal.returns-in_default
 unfolding table
-returns-in_default c = sym (ap found_of (away table c.args.opcode Unit c.in_default-own.rest).1)
+returns-in_default c = sym (ap found_of (away table c.args.opcode Unit c.in_default.in_default-own.rest).1)
