@@ -13,8 +13,8 @@ use Rattle.datum.proofs.Parts.{mantissa_digits, patterns_numbers, patterns_split
 use Rattle.datum.proofs.ReadSlices.{kind_slices}
 use Rattle.datum.proofs.read.Goals as goal
 
-told : (f : File) (format x : ℕ) {r : Datum} → r ≡ datum_of f format x → (r ≡ datum_of f format x) × (datum_slices r ≡ number_slices f format x)
-told f format x e = (e, ap datum_slices e ∙ kind_slices f (sign_of x) (exponent_of x) (mantissa_of format x))
+told : (f : File) (format x : ℕ) {r : Datum} → r ≡ datum_of f format x → record { kind : r ≡ datum_of f format x; slices : datum_slices r ≡ number_slices f format x }
+told f format x e = record { kind = e; slices = ap datum_slices e ∙ kind_slices f (sign_of x) (exponent_of x) (mantissa_of format x) }
 
 pub returns-then-m-eq0 : goal.returns-then-m-eq0
 returns-then-m-eq0 c = let a = c.args in

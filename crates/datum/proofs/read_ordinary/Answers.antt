@@ -14,8 +14,8 @@ use Rattle.datum.proofs.Parts.{mantissa_digits, patterns_numbers, patterns_split
 use Rattle.datum.proofs.ReadSlices.{ordinary_slices_lem, exponent_middle, finite_ordinary, other_ordinary}
 use Rattle.datum.proofs.read_ordinary.Goals as goal
 
-told : (f : File) (format x : ℕ) {r : Datum} → r ≡ ordinary_of f format x → (r ≡ ordinary_of f format x) × (datum_slices r ≡ ordinary_slices f format x)
-told f format x e = (e, ap datum_slices e ∙ ordinary_slices_lem f format x)
+told : (f : File) (format x : ℕ) {r : Datum} → r ≡ ordinary_of f format x → record { kind : r ≡ ordinary_of f format x; slices : datum_slices r ≡ ordinary_slices f format x }
+told f format x e = record { kind = e; slices = ap datum_slices e ∙ ordinary_slices_lem f format x }
 
 pub numbers-requires : goal.numbers-requires
 numbers-requires c = let a = c.args in

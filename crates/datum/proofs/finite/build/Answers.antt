@@ -15,6 +15,6 @@ returns c = let a = c.args in
     let sign = head_sign x ∙ f.0 in
     let exponent = head_exponent x ∙ f.1 in
     let kept : mantissa_of a.format x ≡ mantissa_of a.format m = mantissa_same a.format x m f.2 in
-    let high = c.high.ensures (omega (arith, exponent)) (omega (arith, exponent)) ∙ (λ i. bits_of (sign i) ((c.«high_bits_lem».ensures.0 ∙ ap (high_of a.file) (k ∙ kept)) i) (exponent i)) in
+    let high = c.high.ensures (omega (arith, exponent)) (omega (arith, exponent)) ∙ (λ i. bits_of (sign i) ((c.high_bits.ensures.0 ∙ ap (high_of a.file) (k ∙ kept)) i) (exponent i)) in
     let low = c.low.ensures (omega (arith, exponent)) (omega (arith, exponent)) ∙ (λ i. bits_of (sign i) ((c.low_bits.ensures.0 ∙ ap (low_of a.file) (k ∙ kept)) i) (exponent i)) in
     λ i. record { high = high i; low = low i }
