@@ -12,8 +12,8 @@ unfoldable pub shifted_a : Control → Span
 shifted_a c = span (bank_row c.a.matrix 0) 16
 
 -- it has the modes 2 and 3, and needs A; it reads the 16 rows from the last SrcA row on, and sets rows 0..15
-abbrev pub shift_aMeaning : ℕ → Meaning
-shift_aMeaning mode =
+abbrev pub shift_a_meaning : ℕ → Meaning
+shift_a_meaning mode =
     quiet
     · undefined_if (ltb mode 2)
     · needing BankA
@@ -25,6 +25,6 @@ unfoldable pub shifted_b : Control → ℕ → ShiftB → ℕ
 shifted_b c t s = bank_row c.b.matrix ((s.row + (thread_at c t).b.at.0) % bank_rows)
 
 -- it needs B, and reads its row; then slot
-abbrev pub shift_bMeaning : ShiftB → Meaning
-shift_bMeaning s =
+abbrev pub shift_b_meaning : ShiftB → Meaning
+shift_b_meaning s =
     quiet · needing BankB · reading (λ c t. rows_read no_span (span (shifted_b c t s) 1) no_span) · moving (Slot s.slot)

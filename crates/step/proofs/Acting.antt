@@ -5,7 +5,7 @@ use mathlib.Core.List.{List}
 use Prim.Native.Nat.{ℕ}
 use lib.ListN.{length}
 use Rattle.cells.specs.State.{State, state}
-use Rattle.word.specs.Operands.{multiply_of, shift_aOf, shift_bOf}
+use Rattle.word.specs.Operands.{multiply_of, shift_a_of, shift_b_of}
 use Rattle.word.specs.declared.MultiplyWord.{MultiplyWord}
 use Rattle.word.specs.declared.ShiftAWord.{ShiftAWord}
 use Rattle.word.specs.declared.ShiftBWord.{ShiftBWord}
@@ -38,21 +38,21 @@ module _ (c : Control) (t : ℕ) (a b d r : List ℕ) (f : Operands) where
       ∙ chosen (λ x. state a b x r) (fits p (length a) (length b) (length d)) (multiplied p a b d) d
       ∙ sym (ap (λ (g : Operands). cond (inside c t g (state a b d r)) (effect_of c t g (state a b d r)) (state a b d r)) e)
 
-  pub shift_a_acts : (w : ShiftAWord) → f ≡ operands.ShiftA w → {n : List ℕ} → n ≡ cond (inside_a c (length a)) (shift_a c (shift_aOf w) a) a
+  pub shift_a_acts : (w : ShiftAWord) → f ≡ operands.ShiftA w → {n : List ℕ} → n ≡ cond (inside_a c (length a)) (shift_a c (shift_a_of w) a) a
       → state n b d r ≡ acted c t f (state a b d r)
   unfolding acted inside effect_of
   shift_a_acts w e h =
       ap (λ (x : List ℕ). state x b d r) h
-      ∙ chosen (λ x. state x b d r) (inside_a c (length a)) (shift_a c (shift_aOf w) a) a
+      ∙ chosen (λ x. state x b d r) (inside_a c (length a)) (shift_a c (shift_a_of w) a) a
       ∙ sym (ap (λ (g : Operands). cond (inside c t g (state a b d r)) (effect_of c t g (state a b d r)) (state a b d r)) e)
 
   pub shift_b_acts : (w : ShiftBWord) → f ≡ operands.ShiftB w → {n : List ℕ}
-      → n ≡ cond (inside_b c t (shift_bOf w) (length b)) (shift_b c t (shift_bOf w) b) b
+      → n ≡ cond (inside_b c t (shift_b_of w) (length b)) (shift_b c t (shift_b_of w) b) b
       → state a n d r ≡ acted c t f (state a b d r)
   unfolding acted inside effect_of
   shift_b_acts w e h =
       ap (λ (y : List ℕ). state a y d r) h
-      ∙ chosen (λ y. state a y d r) (inside_b c t (shift_bOf w) (length b)) (shift_b c t (shift_bOf w) b) b
+      ∙ chosen (λ y. state a y d r) (inside_b c t (shift_b_of w) (length b)) (shift_b c t (shift_b_of w) b) b
       ∙ sym (ap (λ (g : Operands). cond (inside c t g (state a b d r)) (effect_of c t g (state a b d r)) (state a b d r)) e)
 
 -- whatever its rows, one that is inside has its effect

@@ -4,7 +4,7 @@
 use Rattle.std.specs.Prelude.{Bool, true, cond, ℕ, ◌+◌, leb, length}
 use Rattle.cells.specs.Layout.{column_count, row_start}
 use Rattle.cells.specs.State.{State}
-use Rattle.word.specs.Operands.{multiply_of, shift_bOf}
+use Rattle.word.specs.Operands.{multiply_of, shift_b_of}
 use Rattle.word.specs.declared.ShiftB.{ShiftB}
 use Rattle.word.specs.declared.Operands.{Operands}
 use Rattle.word.specs.declared.Operands.TheVariants as operands
@@ -29,7 +29,7 @@ inside c t (operands.SetCounters w) s = true
 inside c t (operands.AddCounters w) s = true
 inside c t (operands.ZeroSrc w) s = true
 inside c t (operands.ShiftA w) s = inside_a c (length s.srca)
-inside c t (operands.ShiftB w) s = inside_b c t (shift_bOf w) (length s.srcb)
+inside c t (operands.ShiftB w) s = inside_b c t (shift_b_of w) (length s.srcb)
 inside c t (operands.Scalar w) s = true
 inside c t operands.NoEffect s = true
 

@@ -6,7 +6,7 @@ use Rattle.word.specs.Bits.{bits, Range, ◌to◌}
 use Rattle.word.specs.Table.{Row}
 use Rattle.word.specs.Word.{row_of, stray_in, offending_in}
 use Rattle.word.specs.Refusal.{number_of, bit_of}
-use Rattle.word.specs.Operands.{multiply_of, legacy_of, set_counters_of, add_counters_of, zero_src_of, shift_aOf, shift_bOf, scalar_of}
+use Rattle.word.specs.Operands.{multiply_of, legacy_of, set_counters_of, add_counters_of, zero_src_of, shift_a_of, shift_b_of, scalar_of}
 use Rattle.word.specs.declared.Clear.{Clear}
 use Rattle.word.specs.declared.Which.{Which}
 use Rattle.word.specs.declared.Height.{Height}
@@ -60,8 +60,8 @@ add_counters_numbers s = s.mode ∷ s.d ∷ s.b ∷ s.a ∷ []
 abbrev pub zero_src_numbers : ZeroSrc → List ℕ
 zero_src_numbers z = z.value ∷ digit z.write ∷ digit z.both ∷ digit z.b ∷ digit z.a ∷ []
 
-abbrev pub shift_bNumbers : ShiftB → List ℕ
-shift_bNumbers s = s.slot ∷ digit s.zero ∷ s.row ∷ []
+abbrev pub shift_b_numbers : ShiftB → List ℕ
+shift_b_numbers s = s.slot ∷ digit s.zero ∷ s.row ∷ []
 
 abbrev pub scalar_numbers : Scalar → List ℕ
 scalar_numbers s = digit s.constant ∷ s.mode ∷ s.result ∷ s.b ∷ s.a ∷ []
@@ -83,8 +83,8 @@ operands_answer (operands.Legacy x) = fields 0x22 (legacy_numbers (legacy_of x))
 operands_answer (operands.SetCounters x) = fields 0x37 (set_counters_numbers (set_counters_of x))
 operands_answer (operands.AddCounters x) = fields 0x38 (add_counters_numbers (add_counters_of x))
 operands_answer (operands.ZeroSrc x) = fields 0x11 (zero_src_numbers (zero_src_of x))
-operands_answer (operands.ShiftA x) = fields 0x17 (shift_aOf x ∷ [])
-operands_answer (operands.ShiftB x) = fields 0x18 (shift_bNumbers (shift_bOf x))
+operands_answer (operands.ShiftA x) = fields 0x17 (shift_a_of x ∷ [])
+operands_answer (operands.ShiftB x) = fields 0x18 (shift_b_numbers (shift_b_of x))
 operands_answer operands.NoEffect = fields 0x35 []
 operands_answer (operands.Scalar x) = fields (operation_opcode (scalar_of x).op) (scalar_numbers (scalar_of x))
 

@@ -1,6 +1,6 @@
 // A word's class, and the fields of a word by its class.
 ghost use Rattle.std.specs.Prelude.{◌≡◌};
-ghost use Rattle.word.specs.Operands.{clear_of, which_of, height_of, multiply_slot, multiply_of, legacy_of, set_counters_of, add_counters_of, zero_src_of, shift_aOf, shift_bOf, operation_of, scalar_of, operands_of};
+ghost use Rattle.word.specs.Operands.{clear_of, which_of, height_of, multiply_slot, multiply_of, legacy_of, set_counters_of, add_counters_of, zero_src_of, shift_a_of, shift_b_of, operation_of, scalar_of, operands_of};
 
 use crate::{
     AddCounters, AddCountersWord, Class, Clear, Height, Legacy, LegacyWord, Multiply, MultiplyWord,
@@ -137,7 +137,7 @@ impl ZeroSrcWord {
 
 impl ShiftAWord {
     pub fn mode(self) -> u32
-        ensures { result ≡ shift_aOf self }
+        ensures { result ≡ shift_a_of self }
     {
         self.0 % 4
     }
@@ -145,7 +145,7 @@ impl ShiftAWord {
 
 impl ShiftBWord {
     pub fn fields(self) -> ShiftB
-        ensures { result ≡ shift_bOf self }
+        ensures { result ≡ shift_b_of self }
     {
         let w = self.0;
         ShiftB {

@@ -1,11 +1,10 @@
 -- `rules::multiply::is_modelled` meets its contract: the two modes in one test. Assumes nothing.
+-- Fp32, INT8, FP16A force, format 2, format 6
 use mathlib.Core.Path.{◌≡◌, refl}
 use mathlib.Core.Bool.{Bool, true, false, not, ◌&&◌, ◌||◌}
 use lib.Dec.{eqb}
-use Rattle.rules.proofs.multiply.is_modelled.Statement.{statement}
-use Rattle.rules.proofs.multiply.is_modelled.Tie as tie
+use Rattle.rules.proofs.multiply.is_modelled.Goals as goal
 
--- Fp32, INT8, FP16A force, format 2, format 6
 both-modes : (f i h two six : Bool) → ((not i && not h) && (two || (f && six))) ≡ ((((f && not i) && not h) && (two || six)) || (((not f && not i) && not h) && two))
 both-modes true true h two six = refl
 both-modes false true h two six = refl
@@ -17,10 +16,6 @@ both-modes true false false false false = refl
 both-modes false false false true six = refl
 both-modes false false false false six = refl
 
-returns : tie.Need-returns
-returns c =
-    let s = c.before.before.before.before.before.args.s in
+pub returns : goal.returns
+returns c = let s = c.args.s in
     both-modes s.fp32 s.int8 s.fp16a (eqb s.format 2) (eqb s.format 6)
-
-pub is-modelled-spec : {M : Type 1} → statement M
-is-modelled-spec = tie.close (tie.spec returns)
