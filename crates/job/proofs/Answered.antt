@@ -55,11 +55,11 @@ differ z = absurd (omega arith)
 
 -- ---- the answer in numbers goes by the answer
 
-pub width_answered : (job : List ℕ) (w : Width) → w ≡ job_width job → (w ≡ job_width job) × (width_numbers w ≡ width_answer job)
-width_answered job w e = (e, ap width_numbers e)
+pub width_answered : (job : List ℕ) (w : Width) → w ≡ job_width job → record { width : w ≡ job_width job; answer : width_numbers w ≡ width_answer job }
+width_answered job w e = record { width = e; answer = ap width_numbers e }
 
-pub shape_answered : (job : List ℕ) (s : Shape) → s ≡ shape_of job → (s ≡ shape_of job) × (shape_numbers s ≡ shape_answer job)
-shape_answered job s e = (e, ap shape_numbers e)
+pub shape_answered : (job : List ℕ) (s : Shape) → s ≡ shape_of job → record { shape : s ≡ shape_of job; answer : shape_numbers s ≡ shape_answer job }
+shape_answered job s e = record { shape = e; answer = ap shape_numbers e }
 
 -- ---- a field that is not wrong carries its tag and the numbers of its payload
 
@@ -165,5 +165,5 @@ stands job at = go (field_at job at).kind refl
     go (Prints o) e = right (Prints o) e (λ c q. differ (cc))
     go (Wrong c) e = rw (e, place_at job at)
 
-pub field_answered : (job : List ℕ) (at : ℕ) (f : Field) → f ≡ field_at job at → (f ≡ field_at job at) × (field_numbers f ≡ field_answer job at)
-field_answered job at f e = (e, ap field_numbers e ∙ stands job at)
+pub field_answered : (job : List ℕ) (at : ℕ) (f : Field) → f ≡ field_at job at → record { field : f ≡ field_at job at; answer : field_numbers f ≡ field_answer job at }
+field_answered job at f e = record { field = e; answer = ap field_numbers e ∙ stands job at }
