@@ -1,0 +1,11 @@
+-- `walk::hand_over` meets its contract. Assumes nothing.
+use Rattle.control.specs.Halves.{joined}
+use Rattle.walk.proofs.hand_over.Goals as goal
+
+pub returns-in-A : goal.returns-in-A
+unfolding joined
+returns-in-A c = λ s. simp (c.hand_over-banks.ensures, c.banks_of.ensures s, c.in-A.is)
+
+pub returns-in-B : goal.returns-in-B
+unfolding joined
+returns-in-B c = λ s. simp (c.hand_over-banks.ensures, c.banks_of.ensures s, c.in-B.is)
