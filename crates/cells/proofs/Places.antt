@@ -14,7 +14,7 @@ use borrow.Author.Tests.{ltb-true, ltb-false, eqb-true, eqb-false, lt-ltb, le-lt
 use Rattle.cells.specs.Layout.{cell}
 use Rattle.cells.specs.declared.Width.{Width}
 use Rattle.cells.specs.declared.Width.TheVariants.{Bits32, Bits16}
-use Rattle.cells.specs.Cells.{over, between, within}
+use Rattle.cells.specs.Cells.{between, within}
 use Rattle.cells.specs.Places.{limit_of, places_of, kept_in, half_at, halves, over_halves, get_at, over_at}
 use Rattle.cells.proofs.Cells.{split, length_mapi, get_d_mapi, length_over, over_in, over_out, between_true, between_in, between_after, between_rows, none_between, more, apart}
 

@@ -1,5 +1,4 @@
 -- Document 01, "Set and unset": the marks after a field: loads and zeroing set, an instruction sets and its clear unsets. Definitions only.
-use Rattle.std.specs.Prelude.{ℕ}
 use Rattle.cells.specs.Layout.{one_register}
 use Rattle.control.specs.declared.Control.{Control}
 use Rattle.rules.specs.Access.{word_sets, word_unsets}

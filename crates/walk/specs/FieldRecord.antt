@@ -1,6 +1,6 @@
 -- Document 01, "The job": the control record after a field, the rows that a Src load writes, and how many instructions a field issues.
 -- Definitions only.
-use Rattle.std.specs.Prelude.{List, ℕ, ◌+◌}
+use Rattle.std.specs.Prelude.{List, ℕ}
 use Rattle.cells.specs.declared.layout.File.{File}
 use Rattle.cells.specs.declared.layout.File.TheVariants.{A, B}
 use Rattle.cells.specs.declared.layout.Span.{Span}

@@ -1,8 +1,7 @@
 -- `cells::fill` meets its contract: before number i all of the stretch is filled. Assumes nothing.
 use mathlib.Core.Path.{refl}
-use Prim.Native.Nat.{◌-◌}
 use native.Mathlib.Omega.{arith}
-use Rattle.cells.proofs.Parts.{Going, going_start, going_length, first_inside, going_inside, going_on, going_end}
+use Rattle.cells.proofs.Parts.{going_start, going_length, first_inside, going_inside, going_on, going_end}
 use Rattle.cells.proofs.fill.Goals as goal
 
 pub loop-i-init : goal.loop-i-init

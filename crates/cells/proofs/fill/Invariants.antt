@@ -1,6 +1,6 @@
 -- `cells::fill` meets its contract: before number i all of the stretch is filled. Assumes nothing.
 use Prim.Native.Nat.{◌-◌}
-use Rattle.cells.proofs.Parts.{Going, going_start, going_length, first_inside, going_inside, going_on, going_end}
+use Rattle.cells.proofs.Parts.{Going}
 use Rattle.cells.proofs.fill.Given as goal
 
 abbrev pub invariant-loop-i : goal.invariant-loop-i

@@ -1,5 +1,5 @@
 -- `cells::read` meets its contract, width by width. Assumes nothing.
-use mathlib.Core.Path.{◌≡◌, sym, ap, ◌∙◌}
+use mathlib.Core.Path.{sym, ap, ◌∙◌}
 use native.Mathlib.Omega.{arith}
 use Rattle.cells.specs.declared.Width.{Width}
 use Rattle.cells.specs.Places.{get_at}

@@ -1,14 +1,11 @@
 -- `precheck::check_from` meets its contract. Assumes nothing.
 use mathlib.Core.Path.{refl, sym, ap, ◌∙◌}
-use Prim.Native.Nat.{◌-◌}
-use lib.ListN.{length}
 use native.Mathlib.Omega.{arith}
 use Rattle.rules.proofs.ByCore.{leaves}
 use Rattle.word.specs.declared.Read.{Read}
 use Rattle.rules.specs.Rules.{lowest, read_verdict}
 use Rattle.walk.specs.FieldRecord.{field_control}
 use Rattle.walk.proofs.Advanced.{advanced}
-use Rattle.control.specs.Halves.{joined}
 use Rattle.job.specs.Settings.{choices_in}
 use Rattle.job.proofs.Halves.{settled_on, start_on}
 use Rattle.job.proofs.Walk.{next_after}
@@ -18,8 +15,7 @@ use Rattle.precheck.specs.Marking.{field_marks}
 use Rattle.precheck.specs.Check.{unless_broken}
 use Rattle.precheck.specs.declared.Checked.TheVariants.{Passed}
 use Rattle.precheck.proofs.Judged.{unread, rules_by}
-use Rattle.precheck.proofs.Checking.{Checking, checking_first, checking_end, turn_stop, turn_on, issue_on}
-use borrow.Author.Rules.{rules}
+use Rattle.precheck.proofs.Checking.{checking_first, checking_end, turn_stop, turn_on, issue_on}
 use Rattle.precheck.proofs.check_from.Goals as goal
 
 pub loop-at-init : goal.loop-at-init

@@ -1,10 +1,9 @@
 -- `precheck::check_from` meets its contract. Assumes nothing.
-use mathlib.Core.Path.{refl, sym, ap, ◌∙◌}
 use Prim.Native.Nat.{◌-◌}
 use lib.ListN.{length}
 use Rattle.control.specs.Halves.{joined}
 use Rattle.job.specs.Settings.{choices_in}
-use Rattle.precheck.proofs.Checking.{Checking, checking_first, checking_end, turn_stop, turn_on, issue_on}
+use Rattle.precheck.proofs.Checking.{Checking}
 use Rattle.precheck.proofs.check_from.Given as goal
 
 abbrev pub invariant-loop-at : goal.invariant-loop-at

@@ -5,7 +5,7 @@ use Rattle.control.specs.declared.Thread.{Thread}
 use Rattle.control.specs.Halves.{own_of, core_of}
 use Rattle.control.specs.Record.{start_thread}
 use native.Mathlib.Omega.{arith}
-use mathlib.Core.Path.{◌≡◌, ◌∙◌, ap}
+use mathlib.Core.Path.{◌∙◌, ap}
 use Rattle.control.proofs.halves.core_of.Goals as goal
 
 abbrev own : Thread → Own

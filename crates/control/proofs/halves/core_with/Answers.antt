@@ -1,6 +1,4 @@
 -- `control::halves::core_with` meets its contract: the banks are looked at only where a file is cleared. Assumes nothing.
-use mathlib.Core.Path.{◌≡◌}
-use mathlib.Core.Bool.{false}
 use Rattle.cells.proofs.Cells.{both_off}
 use Rattle.control.proofs.halves.core_with.Goals as goal
 

@@ -5,7 +5,7 @@ use Rattle.control.specs.declared.Thread.{Thread}
 use Rattle.control.specs.Halves.{choice_of, thread_of, joined}
 use Rattle.control.specs.Record.{start_thread}
 use native.Mathlib.Omega.{arith}
-use mathlib.Core.Path.{◌≡◌, ◌∙◌, ap}
+use mathlib.Core.Path.{◌∙◌, ap}
 use Rattle.control.proofs.halves.with_core.Goals as goal
 
 abbrev with : Own → Thread → Thread

@@ -1,10 +1,8 @@
 -- `control::range::slots_ok` meets its contract: before place i each slot was tested. Assumes nothing.
-use Prim.Native.Nat.{ℕ, ◌-◌}
 use native.Mathlib.Omega.{arith}
-use lib.ListN.{get_or}
-use Rattle.control.specs.Record.{slot_count, zero_slot}
-use Rattle.control.specs.Range.{slot_ok, slots_ok}
-use Rattle.control.proofs.Arrays.{Passed, passed_none, passed_more, passed_all}
+use Rattle.control.specs.Record.{slot_count}
+use Rattle.control.specs.Range.{slots_ok}
+use Rattle.control.proofs.Arrays.{passed_none, passed_more, passed_all}
 use Rattle.control.proofs.range.slots_ok.Goals as goal
 
 pub loop-i-init : goal.loop-i-init

@@ -2,8 +2,8 @@
 use Prim.Native.Nat.{ℕ, ◌-◌}
 use lib.ListN.{get_or}
 use Rattle.control.specs.Record.{slot_count, zero_slot}
-use Rattle.control.specs.Range.{slot_ok, slots_ok}
-use Rattle.control.proofs.Arrays.{Passed, passed_none, passed_more, passed_all}
+use Rattle.control.specs.Range.{slot_ok}
+use Rattle.control.proofs.Arrays.{Passed}
 use Rattle.control.proofs.range.slots_ok.Given as goal
 
 abbrev pub invariant-loop-i : goal.invariant-loop-i

@@ -1,10 +1,7 @@
 -- `numbers::lists::put` meets its contract: before place i each number was written. Assumes nothing.
 use mathlib.Core.Path.{refl}
-use Prim.Native.Nat.{◌-◌, ◌≤◌}
 use native.Mathlib.Omega.{arith}
-use lib.ListN.{length}
-use Rattle.numbers.specs.Record.{number_from}
-use Rattle.numbers.proofs.Parts.{Put, put_none, put_one, put_end}
+use Rattle.numbers.proofs.Parts.{put_none, put_one, put_end}
 use borrow.Author.Rules.{rules}
 use Rattle.numbers.proofs.lists.put.Goals as goal
 

@@ -2,7 +2,7 @@
 use Prim.Native.Nat.{◌-◌, ◌≤◌}
 use lib.ListN.{length}
 use Rattle.numbers.specs.Record.{number_from}
-use Rattle.numbers.proofs.Parts.{Put, put_none, put_one, put_end}
+use Rattle.numbers.proofs.Parts.{Put}
 use Rattle.numbers.proofs.lists.put.Given as goal
 
 abbrev pub invariant-loop-i : goal.invariant-loop-i

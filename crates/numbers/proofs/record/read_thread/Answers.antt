@@ -1,16 +1,16 @@
 -- `numbers::record::read_thread` meets its contract: before place s each slot was read and compared, then its own numbers. Assumes nothing.
 use mathlib.Core.Path.{◌≡◌, refl, ap, ◌∙◌}
 use mathlib.Core.List.{List}
-use Prim.Native.Nat.{ℕ, ◌+◌, ◌-◌, ◌*◌, ◌≤◌}
+use Prim.Native.Nat.{ℕ, ◌+◌, ◌*◌}
 use native.Mathlib.Omega.{arith}
-use Rattle.cells.proofs.Tables.{Filled, get_d_table, filled_more, filled_all}
+use Rattle.cells.proofs.Tables.{get_d_table, filled_more, filled_all}
 use Rattle.control.specs.Record.{slot_count, zero_slot}
 use Rattle.control.specs.declared.Slot.{Slot}
 use Rattle.control.specs.declared.Thread.{Thread}
 use Rattle.numbers.specs.Places.{own_length, slot_length, thread_length}
 use Rattle.numbers.specs.Lists.{own_numbers, slot_numbers, slot_number_at, thread_number}
 use Rattle.numbers.specs.Record.{slot_from, slots_from, own_from, thread_from, number_from}
-use Rattle.numbers.proofs.Parts.{own_at_lem, slot_from_lem, Same, same_none, same_list, same_first, same_rest}
+use Rattle.numbers.proofs.Parts.{own_at_lem, slot_from_lem, same_none, same_list, same_first, same_rest}
 use Rattle.numbers.proofs.record.read_thread.Goals as goal
 
 pub loop-s-init : goal.loop-s-init

@@ -1,12 +1,11 @@
 -- `numbers::record::read_thread` meets its contract: before place s each slot was read and compared, then its own numbers. Assumes nothing.
-use mathlib.Core.Path.{◌≡◌, refl, ap, ◌∙◌}
 use Prim.Native.Nat.{ℕ, ◌+◌, ◌-◌, ◌*◌, ◌≤◌}
-use Rattle.cells.proofs.Tables.{Filled, get_d_table, filled_more, filled_all}
-use Rattle.control.specs.Record.{slot_count, zero_slot}
-use Rattle.numbers.specs.Places.{own_length, slot_length, thread_length}
-use Rattle.numbers.specs.Lists.{own_numbers, slot_numbers, slot_number_at, thread_number}
-use Rattle.numbers.specs.Record.{slot_from, slots_from, own_from, thread_from, number_from}
-use Rattle.numbers.proofs.Parts.{own_at_lem, slot_from_lem, Same, same_none, same_list, same_first, same_rest}
+use Rattle.cells.proofs.Tables.{Filled}
+use Rattle.control.specs.Record.{slot_count}
+use Rattle.numbers.specs.Places.{own_length, slot_length}
+use Rattle.numbers.specs.Lists.{thread_number}
+use Rattle.numbers.specs.Record.{slot_from, thread_from, number_from}
+use Rattle.numbers.proofs.Parts.{Same}
 use Rattle.numbers.proofs.record.read_thread.Given as goal
 
 abbrev pub invariant-loop-s : goal.invariant-loop-s

@@ -1,10 +1,8 @@
 -- `numbers::record::stand` meets its contract: before place i each number was compared. Assumes nothing.
 use mathlib.Core.Path.{refl}
-use Prim.Native.Nat.{◌-◌, ◌≤◌}
 use native.Mathlib.Omega.{arith}
 use lib.ListN.{length}
-use Rattle.numbers.specs.Record.{number_from}
-use Rattle.numbers.proofs.Parts.{Same, same_none, same_one, same_end}
+use Rattle.numbers.proofs.Parts.{same_none, same_one, same_end}
 use Rattle.numbers.proofs.record.stand.Goals as goal
 
 pub loop-i-init : goal.loop-i-init

@@ -2,7 +2,7 @@
 use Prim.Native.Nat.{◌-◌, ◌≤◌}
 use lib.ListN.{length}
 use Rattle.numbers.specs.Record.{number_from}
-use Rattle.numbers.proofs.Parts.{Same, same_none, same_one, same_end}
+use Rattle.numbers.proofs.Parts.{Same}
 use Rattle.numbers.proofs.record.stand.Given as goal
 
 abbrev pub invariant-loop-i : goal.invariant-loop-i

@@ -1,9 +1,8 @@
 -- `precheck::marking::all_set` meets its contract: before place i each was tested. Assumes nothing.
 use mathlib.Core.Bool.{false}
-use Prim.Native.Nat.{◌+◌, ◌-◌}
+use Prim.Native.Nat.{◌+◌}
 use native.Mathlib.Omega.{arith}
-use lib.ListN.{get_or}
-use Rattle.control.proofs.Arrays.{Passed, passed_none, passed_more, passed_all, get_d_in}
+use Rattle.control.proofs.Arrays.{passed_none, passed_more, passed_all, get_d_in}
 use Rattle.precheck.specs.Marks.{all_set}
 use Rattle.precheck.proofs.Spans.{past_unset}
 use Rattle.precheck.proofs.marking.all_set.Goals as goal

@@ -2,7 +2,7 @@
 use mathlib.Core.Bool.{false}
 use Prim.Native.Nat.{◌+◌, ◌-◌}
 use lib.ListN.{get_or}
-use Rattle.control.proofs.Arrays.{Passed, passed_none, passed_more, passed_all, get_d_in}
+use Rattle.control.proofs.Arrays.{Passed}
 use Rattle.precheck.proofs.marking.all_set.Given as goal
 
 abbrev pub invariant-loop-i : goal.invariant-loop-i

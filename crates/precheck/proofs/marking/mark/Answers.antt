@@ -1,10 +1,9 @@
 -- `precheck::marking::mark` meets its contract: before place i all of the span is marked. Assumes nothing.
 use mathlib.Core.Bool.{false}
 use mathlib.Core.Path.{◌≡◌, refl, sym, ap, ◌∙◌}
-use Prim.Native.Nat.{◌≤◌, ◌-◌}
+use Prim.Native.Nat.{◌≤◌}
 use native.Mathlib.Omega.{arith}
 use lib.ListN.{length}
-use Rattle.cells.specs.Cells.{over, between}
 use Rattle.cells.proofs.Cells.{length_over, turn, over_between_none}
 use Rattle.precheck.proofs.Spans.{over_came, least_right, over_cut}
 use Rattle.precheck.proofs.marking.mark.Goals as goal

@@ -1,5 +1,5 @@
 -- `precheck::marking::mark` meets its contract: before place i all of the span is marked. Assumes nothing.
-use mathlib.Core.Path.{◌≡◌, refl, sym, ap, ◌∙◌}
+use mathlib.Core.Path.{◌≡◌}
 use Prim.Native.Nat.{◌≤◌, ◌-◌}
 use Rattle.cells.specs.Cells.{over, between}
 use Rattle.precheck.proofs.marking.mark.Given as goal

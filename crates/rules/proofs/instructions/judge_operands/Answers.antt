@@ -3,7 +3,6 @@ use Rattle.rules.proofs.Reading.{told_of_all}
 use Rattle.rules.specs.Rules.{operand_rules, lowest}
 use Rattle.control.specs.Halves.{Choice, joined}
 use Prim.Native.Nat.{ℕ}
-use borrow.Author.Rules.{rules}
 use Rattle.rules.proofs.instructions.judge_operands.Goals as goal
 
 pub returns-in-Multiply : goal.returns-in-Multiply

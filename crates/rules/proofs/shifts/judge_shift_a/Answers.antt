@@ -5,7 +5,6 @@ use Rattle.word.specs.declared.Operands.TheVariants as operands
 use Rattle.control.specs.Halves.{Choice, joined}
 use Prim.Native.Nat.{ℕ}
 use borrow.Author.Tests.{lt-ltb, le-ltb}
-use borrow.Author.Rules.{rules}
 use Rattle.rules.proofs.shifts.judge_shift_a.Goals as goal
 
 pub returns-then-mode-lt2 : goal.returns-then-mode-lt2

@@ -3,7 +3,6 @@ use Rattle.rules.proofs.ByCore.{shifted_by}
 use Rattle.rules.specs.Shifts.{shifted_b}
 use Rattle.control.specs.Halves.{joined}
 use native.Mathlib.Nat.{mod-add-mod}
-use mathlib.Core.Path.{◌∙◌}
 use Rattle.rules.proofs.shifts.shifted_b.Goals as goal
 
 pub returns : goal.returns
