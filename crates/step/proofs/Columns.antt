@@ -17,6 +17,14 @@ use Rattle.rules.specs.Shifts.{shifted_a, shifted_b}
 use Rattle.step.specs.Shifts.{rightward, leftward, shift_a, shift_b}
 use Rattle.step.specs.Inside.{inside_a, inside_b}
 
+-- ---- what place p becomes
+
+abbrev pub from_left : ℕ → ℕ → List ℕ → ℕ → ℕ
+from_left gap end l p = cond (eqb (p % column_count) 15) end (get_or l (p + gap + 1) 0)
+
+abbrev pub from_right : ℕ → List ℕ → ℕ → ℕ
+from_right gap l p = cond (eqb (p % column_count) 0) 0 (get_or l (p + gap - 1) 0)
+
 -- ---- a column
 
 right_is : (l : List ℕ) (last i : ℕ)
