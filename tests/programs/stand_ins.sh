@@ -5,7 +5,7 @@ mkdir -p "$base/tools" "$room/kit"
 for crate in low demand emulate validate other; do mkdir -p "$base/crates/$crate/src"; done
 cp emulate "$base"
 cp tools/programs.sh "$base/tools"
-printf 'low:\ndemand: low\nemulate: low\nvalidate: low\nother:\n' >"$base/crates.txt"
+printf 'low:\ndemand: low\nemulate: low\nvalidate: low\nother staticlib:\n' >"$base/crates.txt"
 echo one >"$base/crates/low/src/lib.rt"
 echo main >"$base/crates/emulate/src/main.rt"
 echo 'kit-1 logic 0123' >"$room/kit/id"
