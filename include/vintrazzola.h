@@ -1,6 +1,7 @@
 /* Vintrazzola's C interface: the pre-check, the job run and the single step of the proved emulator.
 
-   Link target/staticlib/libcapi.a, which `rt staticlib capi` writes once the crate is proved, for x86-64 Linux.
+   Link target/staticlib/libcapi.a, which `tools/library` writes once the crate is proved (`rt lib` in crates/capi makes
+   it there, as out/libcapi.a), for Linux on x86-64-v2: processors with SSE4.2 and POPCNT, which the code does not check.
 
    Every function is total: it takes any bytes and any lengths, never traps and always ends. A caller owes only what C
    always asks: each pointer is good for its length, the four files do not overlap each other, the job or the record,

@@ -34,11 +34,13 @@ check_descriptors() { # [FILE]
 
 # ---- whether a program is what the sources give
 
-# Content decides, not times: the sum of all that is proved and compiled, and the toolchain's identity.
+# Content decides, not times: the sum of all that is proved and compiled, and the toolchain's identity. What rt makes, in the folder out of a
+# crate, is left out, and a function's proofs in a folder of that name are not.
 look() {
-    sums=$(cd "$top" && find crates crates.txt -name must-fail -prune -o ! -type d -exec sha256sum {} +) || fail "cannot read the sources"
+    sums=$(cd "$top" && find crates crates.txt -name must-fail -prune -o -path 'crates/*/out' ! -path 'crates/*/*/out' -prune -o ! -type d -exec sha256sum {} +) ||
+        fail "cannot read the sources"
     sources=$(printf '%s\n' "$sums" | sort -k 2 | sha256sum | cut -c 1-64)
-    toolchain=$(rt --version) || fail "the toolchain, rt, is not there"
+    toolchain=$(rt version) || fail "the toolchain, rt, is not there"
 }
 
 # What the stamp beside a program says of it.
@@ -54,45 +56,48 @@ all_made() {
 
 # ---- proving and building
 
-# How many crates the named ones are made of, themselves among them.
-count_crates() {
+# The named crates and those below them, in the order of crates.txt, which has the lowest first.
+crates_of() { # CRATE..
     awk -v want="$*" '
-        { sub(/#.*/, "") }
-        split($0, part, ":") > 1 { gsub(/[ \t]/, "", part[1]); deps[part[1]] = part[2] }
+        { sub(/#.*/, ""); sub(/^[ \t]+/, "") }
+        $0 != "" {
+            split($0, part, ":")
+            split(part[1], word, /[ \t]+/)
+            gsub(/,/, " ", part[2])
+            order[++lines] = word[1]
+            deps[word[1]] = part[2]
+        }
         END {
             n = split(want, todo, " ")
             while (n > 0) {
                 c = todo[n--]
                 if (!(c in deps) || seen[c]++) continue
-                total++
                 m = split(deps[c], more, " ")
                 for (i = 1; i <= m; i++) todo[++n] = more[i]
             }
-            print total
+            for (i = 1; i <= lines; i++) if (order[i] in seen) print order[i]
         }' "$top/crates.txt"
 }
 
-# Keeps what rt prints, shows each crate as it is proved, and answers whether rt's status, the last line, is 0.
-show_progress() { # HOW MANY, LOG
-    proved=0 last=
-    while IFS= read -r line; do
-        last=$line
-        printf '%s\n' "$line" >>"$2"
-        case $line in
-        'rt: '*' proved ('*)
-            proved=$((proved + 1))
-            name=${line#rt: }
-            if [ -t 2 ]; then
-                printf '\remulate: %s of %s crates proved: %s\033[K' "$proved" "$1" "${name%% *}" >&2 || :
-            else
-                say "$proved of $1 crates proved: ${name%% *}"
-            fi
-            ;;
-        esac
-    done
-    if [ -t 2 ]; then printf '\n' >&2 || :; fi
-    [ "$last" = "status 0" ]
+# Proves a crate over those below it, and builds it: a library for the crates above, a program as crates/NAME/out/NAME. rt proves again only what no check
+# of the same texts has kept. A program it builds anew where the back end is named, whatever stands in its file, and then runs it, here on an empty job.
+prove() { # CRATE
+    unset RT_BACKEND RT_ALLOW_C
+    cd "$top/crates/$1" || return
+    case " $programs " in
+    *" $1 "*) rt run --backend llvm </dev/null 2>&1 >/dev/null 3>&- ;;
+    *) rt lib </dev/null 2>&1 ;;
+    esac
 }
+
+show_progress() { # HOW MANY, OF HOW MANY, CRATE
+    if [ -t 2 ]; then
+        printf '\remulate: %s of %s crates proved: %s\033[K' "$@" >&2 || :
+    else
+        say "$1 of $2 crates proved: $3"
+    fi
+}
+end_progress() { if [ -t 2 ]; then printf '\n' >&2 || :; fi; }
 
 # The lock is a descriptor: it is free as soon as the call that took it and the prover that it started have ended, however
 # they ended.
@@ -110,20 +115,28 @@ make_ready() {
 }
 
 make_programs() {
-    before="$sources $toolchain" log=$top/target/emulate.log
-    # rt would keep a program whose sources are unchanged, whatever stands in its file
-    for p in $programs; do rm -f "$bin/$p" "$bin/$p.stamp" "$top/target/stamp/$p"; done
+    before="$sources $toolchain" log=$top/target/emulate.log proved=0
+    for p in $programs; do rm -f "$bin/$p" "$bin/$p.stamp"; done
     mkdir -p "$bin"
     : >"$log"
     # shellcheck disable=SC2086
-    count=$(count_crates $programs $claims)
+    crates=$(crates_of $programs $claims)
+    count=$(printf '%s\n' "$crates" | wc -l)
     say "proving $count crates and building the programs; the first time takes some minutes"
-    # shellcheck disable=SC2086
-    if ! { (cd "$top" && rt check $programs $claims </dev/null) 2>&1 && echo "status 0" || echo "status $?"; } | show_progress "$count" "$log"; then
-        say "not proved or not built; the end of target/emulate.log:"
-        tail -n 5 "$log" >&2 || :
-        leave 3
-    fi
+    for c in $crates; do
+        if ! (prove "$c") >>"$log"; then
+            end_progress
+            say "not proved or not built: $c; the end of target/emulate.log:"
+            tail -n 5 "$log" >&2 || :
+            leave 3
+        fi
+        proved=$((proved + 1))
+        show_progress "$proved" "$count" "$c"
+    done
+    end_progress
+    for p in $programs; do
+        { cp "$top/crates/$p/out/$p" "$bin/$p.new" && mv "$bin/$p.new" "$bin/$p"; } || fail "the programs cannot be built"
+    done
     look
     [ "$before" = "$sources $toolchain" ] || fail "the sources changed while they were being proved"
     for p in $programs; do

@@ -1,6 +1,6 @@
 # The proved programs. Sourced by tests/programs/run.
 wrapper=$top/emulate
-cases=27
+cases=28
 is_built() (. tools/programs.sh && look && all_made)
 if [ "${1:-}" = --build ] && ! "$wrapper" --version; then
     wrong "the programs cannot be built"
@@ -68,6 +68,7 @@ else
     rm target/bin/emulate target/bin/validate
     call --version
     holds "made twice, the programs are the same" cmp "$room/version" "$room/out"
+    holds "the second time they were made, not kept" [ "$(grep -c '^logic=proved' target/emulate.log)" -ge 2 ]
 
     # ---- the program alone, as the toolchain runs it: nothing on descriptor 3, and the same output
     wrapper=$top/target/bin/emulate

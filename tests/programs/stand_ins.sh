@@ -1,38 +1,50 @@
 # `emulate` over stand-ins. Sourced by tests/programs/run.
 base=$room/base
 wrapper=$base/emulate
-mkdir -p "$base/tools" "$base/crates/low/src" "$base/crates/emulate/src" "$room/kit"
+mkdir -p "$base/tools" "$room/kit"
+for crate in low demand emulate validate other; do mkdir -p "$base/crates/$crate/src"; done
 cp emulate "$base"
 cp tools/programs.sh "$base/tools"
-printf 'low:\nemulate: low\nvalidate: low\ndemand: low\nother:\n' >"$base/crates.txt"
+printf 'low:\ndemand: low\nemulate: low\nvalidate: low\nother staticlib:\n' >"$base/crates.txt"
 echo one >"$base/crates/low/src/lib.rt"
 echo main >"$base/crates/emulate/src/main.rt"
 echo 'kit-1 logic 0123' >"$room/kit/id"
 : >"$room/kit/calls"
 
-# The stand-in for rt keeps its calls in a file, does first what the file `first` says, and builds programs that take their job
-# for shell commands: a job says itself how its run ends.
+# The stand-in for rt keeps its calls in a file, a crate and a command a line, does first what the file `first` says, and builds programs that take
+# their job for shell commands: a job says itself how its run ends, and an empty one is refused. As rt it works in a crate's folder, keeps a program in
+# its folder out where no back end is named, and runs what it built.
 cat >"$room/kit/rt" <<'RT'
 #!/bin/sh
 kit=$(dirname "$0")
-if [ "$1" = --version ]; then
+if [ "$1" = version ]; then
     cat "$kit/id"
     exit
 fi
-echo "$*" >>"$kit/calls"
+crate=$(basename "$PWD")
+echo "$crate $*" >>"$kit/calls"
+cd ../.. || exit
+[ -z "${RT_BACKEND:-}" ] || exit 1
 [ ! -f "$kit/first" ] || . "$kit/first"
-mkdir -p target/bin
-for p in low demand; do echo "rt: $p proved (1 s)"; done
-for p in emulate validate; do
-    [ -f "target/bin/$p" ] || printf '%s\n' '#!/bin/sh' "program=$p" 'eval "$(cat)"' >"target/bin/$p"
-    chmod +x "target/bin/$p"
-    echo "rt: $p proved (1 s)"
-done
+mkdir -p "crates/$crate/out"
+if [ "$1" = run ]; then
+    program=crates/$crate/out/$crate
+    if [ ! -f "$program" ] || [ "$2" = --backend ]; then
+        printf '%s\n' '#!/bin/sh' "program=$crate" 'job=$(cat)' \
+            'if [ -n "$job" ]; then eval "$job"; else echo refused 1 at 0; { echo 1 >&3; } 2>/dev/null || :; fi' >"$program"
+        chmod +x "$program"
+    fi
+    echo "rt: running $program" >&2
+    "$program"
+else
+    echo made >"crates/$crate/out/lib"
+fi
 RT
 chmod +x "$room/kit/rt"
 kit_path=$room/kit:$PATH
 call_kit() { PATH=$kit_path call "$@"; }
-builds() { wc -l <"$room/kit/calls"; }
+# each build calls it once in this crate, the lowest
+builds() { grep -c '^low ' "$room/kit/calls"; }
 
 # ---- wrong calls, before anything is built
 call_kit one two </dev/null && ended "two files" 2 "" usage
@@ -52,17 +64,24 @@ else
     PATH=$kit_path setpriv --reuid=65534 --regid=65534 --clear-groups "$wrapper" "$room/unreadable" >"$room/out" 2>"$room/err" || status=$?
     ended "an unreadable file" 3 "" "cannot read"
 fi
-holds "nothing is built for a wrong call" [ "$(builds)" = 0 ]
+holds "nothing is built for a wrong call" [ ! -s "$room/kit/calls" ]
 
 # ---- the first call
 echo 'exit 1' >"$room/kit/first"
 call_kit <<<'echo finished 1; echo 0 >&3' && ended "a build that fails" 3 "" "not proved or not built"
+for crate in demand validate; do
+    echo "[ \$crate != $crate ] || exit 1" >"$room/kit/first"
+    call_kit <<<'echo finished 1; echo 0 >&3' && ended "$crate alone fails" 3 "" "not proved or not built: $crate"
+done
+echo '[ $crate != validate ] || exit 0' >"$room/kit/first"
+call_kit <<<'echo finished 1; echo 0 >&3' && ended "a program that is not there after its build" 3 "" "cannot be built"
 echo 'echo two >crates/low/src/lib.rt' >"$room/kit/first"
 call_kit <<<'echo finished 1; echo 0 >&3' && ended "sources that change while they are proved" 3 "" changed
 rm "$room/kit/first"
 : >"$room/kit/calls"
 call_kit <<<'echo finished 1; echo 0 >&3' && ended "finished" 0 "finished 1" "4 of 4 crates proved: validate"
-holds "the first call proves the claims too" grep -qw demand "$room/kit/calls"
+holds "the first call proves the claims too" grep -q '^demand ' "$room/kit/calls"
+holds "and what the programs are not made of it leaves alone" [ "$(grep -c '^other ' "$room/kit/calls")" = 0 ]
 
 # ---- how a program ends
 call_kit <<<'echo refused 8 at 180; echo 1 >&3' && ended "refused" 1 "refused 8 at 180"
@@ -119,12 +138,26 @@ rm "$base/target/bin/emulate.stamp"
 works "a program without a stamp" 1
 rm -rf "$base/target"
 works "nothing is there" 1
+printf '#!/bin/sh\necho finished 99\necho 0 >&3\n' >"$base/crates/emulate/out/emulate"
+works "what stands in a crate's folder out" 0
+rm "$base/target/bin/emulate.stamp"
+works "a program that somebody put where rt keeps it" 1
+mkdir -p "$base/crates/low/proofs/out"
+echo 'a proof' >"$base/crates/low/proofs/out/Answers.antt"
+works "the proofs of a function with the name out" 1
+rm "$base/target/bin/validate"
+export RT_BACKEND=rattle
+works "another back end by the environment" 1
+unset RT_BACKEND
+rm "$base/target/bin/validate"
+call_kit 3>"$room/three" <<<'echo finished 1; echo 0 >&3' && ended "the caller's descriptor 3" 0 "finished 1"
+holds "nothing is written on the caller's descriptor 3" [ ! -s "$room/three" ]
 : >"$base/.emulate.lock"
 works "a lock that nobody holds" 0
 
 # ---- several first calls
 rm -rf "$base/target"
-echo 'sleep 1' >"$room/kit/first"
+echo '[ $crate != low ] || sleep 1' >"$room/kit/first"
 before=$(builds)
 for n in 1 2 3; do
     (PATH=$kit_path "$wrapper" <<<'echo finished 1; echo 0 >&3' >"$room/out.$n" 2>&1; echo "status $?" >>"$room/out.$n") &
