@@ -174,55 +174,60 @@ fewer job o s c x g e = omega (arith, ap length (g.given e).rest)
 module _ (job dst registers : List ℕ) (c : Cursor) where
   -- what a text as the definition has it, and what it gives over any SrcA and SrcB
   abbrev Told : Outcome → Next → Next → Type 0
-  Told o x y = (x ≡ y) × ((a b : List ℕ) → Gives job o (state a b dst registers) c x)
+  Told o x y = record { whole : x ≡ y; given : (a b : List ℕ) → Gives job o (state a b dst registers) c x }
 
   -- after the answer
   abbrev Later : Next → Type 0
-  Later x = (x ≡ line_next c (next_line job c) dst registers) × (c.answered ≡ true → (n : ℕ) (a b : List ℕ) → Gives job (Finished n) (state a b dst registers) c x)
+  Later x =
+      record {
+        whole : x ≡ line_next c (next_line job c) dst registers;
+        given : c.answered ≡ true → (n : ℕ) (a b : List ℕ) → Gives job (Finished n) (state a b dst registers) c x;
+      }
 
   pub told_line : (w : What) (d : Cursor) (f : Found) (text : Text) → f ≡ found.Line w d → f ≡ next_line job c
       → text ≡ made (text_of (line_of w dst registers)) → Holds text (text_of (line_of w dst registers)) → Later (record { end = false; text = text; after = d })
   unfolding line_next printed_text
   told_line w d f text q e t h =
-      let l : next_line job c ≡ found.Line w d = sym e ∙ q in (
-        rw (l, t),
-        λ y n a b. gives job (Finished n) c (state a b dst registers) (line (line_of w dst registers)) d text h (first_line job (state a b dst registers) n c y w d l),
-      )
+      let l : next_line job c ≡ found.Line w d = sym e ∙ q in
+      record {
+        whole = rw (l, t);
+        given = λ y n a b. gives job (Finished n) c (state a b dst registers) (line (line_of w dst registers)) d text h (first_line job (state a b dst registers) n c y w d l);
+      }
 
   pub told_last : (f : Found) → f ≡ found.End → f ≡ next_line job c → (x : Next) → x ≡ next_end c → Later x
   unfolding line_next
   told_last f q e x p =
       let l : next_line job c ≡ found.End = sym e ∙ q in
-      (p ∙ rw l, λ y n a b. rw p (gives_none job (Finished n) c (state a b dst registers) (last_line job (state a b dst registers) n c y l)))
+      record { whole = p ∙ rw l; given = λ y n a b. rw p (gives_none job (Finished n) c (state a b dst registers) (last_line job (state a b dst registers) n c y l)) }
 
   pub told_later : (o : Outcome) (n : ℕ) → o ≡ Finished n → c.answered ≡ true → (x : Next) → Later x → Told o x (next_of job o c dst registers)
   unfolding next_of
-  told_later o n q y x l = rw q (l.0 ∙ sym (when_true c.answered _ _ y), l.1 y n)
+  told_later o n q y x l = rw q (record { whole = l.whole ∙ sym (when_true c.answered _ _ y); given = l.given y n })
 
   -- the answer
   pub told_finished : (o : Outcome) (n : ℕ) → o ≡ Finished n → c.answered ≡ false → (text : Text) → text ≡ made (finished_text n) → Holds text (finished_text n)
       → (x : Next) → x ≡ record { end = false; text = text; after = answered_cursor } → Told o x (next_of job o c dst registers)
   unfolding next_of printed_text
   told_finished o n q y text t h x p =
-      rw (q, p) (
-        ap (λ (u : Text). record { end = false; text = u; after = answered_cursor }) t ∙ sym (when_false c.answered _ _ y),
-        λ a b. gives job (Finished n) c (state a b dst registers) (finished n) answered_cursor text h (first_finished job (state a b dst registers) n c y),
-      )
+      rw (q, p) (record {
+        whole = ap (λ (u : Text). record { end = false; text = u; after = answered_cursor }) t ∙ sym (when_false c.answered _ _ y);
+        given = λ a b. gives job (Finished n) c (state a b dst registers) (finished n) answered_cursor text h (first_finished job (state a b dst registers) n c y);
+      })
 
   pub told_refused : (o : Outcome) (r : Refusal) (place : ℕ) → o ≡ Refused r place → c.answered ≡ false → (text : Text)
       → text ≡ made (refused_text (number_of r) place (bit_of r)) → Holds text (refused_text (number_of r) place (bit_of r))
       → (x : Next) → x ≡ record { end = false; text = text; after = answered_cursor } → Told o x (next_of job o c dst registers)
   unfolding next_of printed_text
   told_refused o r place q y text t h x p =
-      rw (q, p) (
-        ap (λ (u : Text). record { end = false; text = u; after = answered_cursor }) t ∙ sym (when_false c.answered _ _ y),
-        λ a b. gives job (Refused r place) c (state a b dst registers) (refused (number_of r) place (bit_of r)) answered_cursor text h (first_refused job (state a b dst registers) r place c y),
-      )
+      rw (q, p) (record {
+        whole = ap (λ (u : Text). record { end = false; text = u; after = answered_cursor }) t ∙ sym (when_false c.answered _ _ y);
+        given = λ a b. gives job (Refused r place) c (state a b dst registers) (refused (number_of r) place (bit_of r)) answered_cursor text h (first_refused job (state a b dst registers) r place c y);
+      })
 
   pub told_no_more : (o : Outcome) (r : Refusal) (place : ℕ) → o ≡ Refused r place → c.answered ≡ true → (x : Next) → x ≡ next_end c → Told o x (next_of job o c dst registers)
   unfolding next_of
   told_no_more o r place q y x p =
-      rw (q, p) (
-        sym (when_true c.answered _ _ y),
-        λ a b. gives_none job (Refused r place) c (state a b dst registers) (last_refused job (state a b dst registers) r place c y),
-      )
+      rw (q, p) (record {
+        whole = sym (when_true c.answered _ _ y);
+        given = λ a b. gives_none job (Refused r place) c (state a b dst registers) (last_refused job (state a b dst registers) r place c y);
+      })

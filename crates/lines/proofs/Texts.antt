@@ -128,8 +128,8 @@ made_holds l h =
     record { short = omega arith; size = e; first = k.1 }
 
 -- a text that was made of a list holds it
-pub whole : (r : Text) (l : List ℕ) → length l ≤ 160 → r ≡ made l → (r ≡ made l) × Holds r l
-whole r l h e = (e, rw e (made_holds l h))
+pub whole : (r : Text) (l : List ℕ) → length l ≤ 160 → r ≡ made l → record { whole : r ≡ made l; first : Holds r l }
+whole r l h e = record { whole = e; first = rw e (made_holds l h) }
 
 -- ---- how long the texts are
 
@@ -179,12 +179,12 @@ module _ (w : List ℕ) (n : ℕ) (fits : n < 2 ^ 64) (h : length w ≤ 20) wher
   numbers_short v p f k x j = simp length-append (omega (arith, fits_20 n fits, fits_20 p f))
 
   pub number_text : (r : Text) → r ≡ pushed (wrote (wrote empty_text w) (decimal n)) 10
-      → (r ≡ made (w ++ decimal n ++ 10 ∷ [])) × Holds r (w ++ decimal n ++ 10 ∷ [])
+      → record { whole : r ≡ made (w ++ decimal n ++ 10 ∷ []); first : Holds r (w ++ decimal n ++ 10 ∷ []) }
   number_text r e = whole r _ number_short (e ∙ simp (wrote_one, wrote_append, append_assoc))
 
   pub numbers_text : (v : List ℕ) (p : ℕ) → p < 2 ^ 64 → length v ≤ 20 → (x : List ℕ) → length x ≤ 40 → (r : Text)
       → r ≡ pushed (wrote (wrote (wrote (wrote (wrote empty_text w) (decimal n)) v) (decimal p)) x) 10
-      → (r ≡ made (w ++ decimal n ++ v ++ decimal p ++ x ++ 10 ∷ [])) × Holds r (w ++ decimal n ++ v ++ decimal p ++ x ++ 10 ∷ [])
+      → record { whole : r ≡ made (w ++ decimal n ++ v ++ decimal p ++ x ++ 10 ∷ []); first : Holds r (w ++ decimal n ++ v ++ decimal p ++ x ++ 10 ∷ []) }
   numbers_text v p f k x j r e = whole r _ (numbers_short v p f k x j) (e ∙ simp (wrote_one, wrote_append, append_assoc))
 
 pub bit_short : (i : Option ℕ) → bit_number i < 2 ^ 64 → length (bit_text i) ≤ 40
@@ -204,12 +204,12 @@ value_short t i v f g = simp length-append (omega (arith, fits_20 t f, fits_20 i
 
 pub row_text : (r : Text) (w : Width) (l : List ℕ) (i : ℕ) → i < 2 ^ 32
     → r ≡ pushed (wrote (wrote (wrote empty_text word_row) (decimal i)) (values (digits_of w) (columns w l i 0 16))) 10
-    → (r ≡ made (text_of (row w i (columns w l i 0 16)))) × Holds r (text_of (row w i (columns w l i 0 16)))
+    → record { whole : r ≡ made (text_of (row w i (columns w l i 0 16))); first : Holds r (text_of (row w i (columns w l i 0 16))) }
 unfolding text_of
 row_text r w l i f e = whole r _ (row_short w l i f) (e ∙ simp (wrote_one, wrote_append, append_assoc))
 
 pub value_text : (r : Text) (t i v : ℕ) → t < 2 ^ 64 → i < 2 ^ 64
     → r ≡ pushed (wrote (wrote (pushed (wrote (wrote empty_text word_register) (decimal t)) 32) (decimal i)) (values 8 (v ∷ []))) 10
-    → (r ≡ made (text_of (value t i v))) × Holds r (text_of (value t i v))
+    → record { whole : r ≡ made (text_of (value t i v)); first : Holds r (text_of (value t i v)) }
 unfolding text_of
 value_text r t i v f g e = whole r _ (value_short t i v f g) (e ∙ simp (wrote_one, wrote_append, append_assoc))

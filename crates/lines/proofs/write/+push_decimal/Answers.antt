@@ -1,0 +1,10 @@
+-- `write::push_decimal` meets its contract: the digits before the last, then the last. Assumes nothing.
+use mathlib.Core.Path.{◌∙◌}
+use Rattle.lines.proofs.Texts.{wrote_one, wrote_last, decimal_one, decimal_more}
+use Rattle.lines.proofs.write.+push_decimal.Goals as goal
+
+pub returns-then-n-lt10 : goal.returns-then-n-lt10
+returns-then-n-lt10 t c = c.push.ensures ∙ rw (decimal_one _ c.if-n-lt10.true) (wrote_one _ _)
+
+pub returns : goal.returns
+returns t c = c.push-2.ensures ∙ rw (c.push_decimal.ensures, decimal_more _ c.if-n-lt10.false) (wrote_last _ _ _)
