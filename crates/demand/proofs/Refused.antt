@@ -2,7 +2,7 @@
 use mathlib.Core.Path.{◌≡◌, refl}
 use mathlib.Core.Bool.{true, false}
 use mathlib.Core.List.{List, [], ◌∷◌}
-use Prim.Native.Nat.{ℕ, zero, suc, ◌+◌}
+use Prim.Native.Nat.{ℕ, zero, suc, ◌+◌, ◌<◌}
 use native.Mathlib.Nat.{le_of_suc-le-suc, not-suc-le-zero}
 use native.Mathlib.Omega.{arith}
 use Rattle.cells.specs.Tests.{one_of}
@@ -51,7 +51,7 @@ module _ (job : List ℕ) where
         place = b.place;
         breaking = b.breaking;
         lowest = b.lowest;
-        first = λ i j. elim i [ zero ↦ λ h. none_broken (field_rules c m f.kind) e j | suc k ↦ λ h. b.first k j (le_of_suc-le-suc h) ];
+        first = λ i j. elim i as (λ (k : ℕ). k < suc b.index → breaks job c m (f ∷ fs) k j ≡ false) [ zero ↦ λ h. none_broken (field_rules c m f.kind) e j | suc k ↦ λ h. b.first k j (le_of_suc-le-suc h) ];
       }
 
   -- the refusal stands where the first rule is broken, by that field's first in rank, with one of the numbers 2 to 8
