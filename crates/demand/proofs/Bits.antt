@@ -8,7 +8,7 @@ use Prim.Native.Nat.{ℕ, ◌+◌, ◌*◌, ◌/◌, ◌%◌, ◌^◌, ◌<◌}
 use native.Mathlib.Omega.{arith}
 use borrow.Author.Tests.{eqb-true, eqb-false, eq-eqb, ne_eqb, le-leb, lt-ltb}
 use lib.Dec.{eqb}
-use lib.ListN.{length, get_or, take, drop, length-take}
+use lib.ListN.{length, get_or, drop, length-take}
 use lib.Seq.{get_or-take, get_or-drop}
 use Rattle.cells.specs.Cells.{between}
 use Rattle.cells.proofs.Cells.{split, between_true}
@@ -17,7 +17,7 @@ use Rattle.word.specs.Table.{Row, table, lookup}
 use Rattle.word.specs.Operands.{opcode_of}
 use Rattle.word.specs.Word.{row_of, unknown_in, stray_at, stray_in, offending_in, unknown_opcode, unnamed_bit, offending_bit}
 use Rattle.word.specs.Refusal.{number_of, bit_of}
-use Rattle.word.specs.Fields.{WordAnswer, fields, refused_by, answer_in, word_answer}
+use Rattle.word.specs.Fields.{fields, refused_by, answer_in, word_answer}
 use Rattle.word.specs.declared.Refusal.{Refusal}
 use Rattle.word.specs.declared.Refusal.TheVariants as refusal
 use Rattle.word.proofs.Every.{Every, ◌and◌}
@@ -30,12 +30,11 @@ use Rattle.control.specs.Record.{start}
 use Rattle.rules.specs.Rules.{rules, operand_rules, lowest, judgement}
 use Rattle.rules.specs.declared.Verdict.TheVariants as verdict
 use Rattle.rules.proofs.Reading.{WordBit}
-use Rattle.job.specs.Bytes.{le2, le4}
-use Rattle.job.specs.Fields.{payload_at, job_width, field_at, fields_from, EachField}
+use Rattle.job.specs.Bytes.{le2}
+use Rattle.job.specs.Fields.{payload_at, job_width, field_at, fields_from}
 use Rattle.job.specs.Shape.{shape_of}
 use Rattle.job.specs.declared.Shape.{Shape}
 use Rattle.job.specs.declared.Shape.TheVariants as shape
-use Rattle.job.specs.declared.Kind.{Kind}
 use Rattle.job.specs.declared.Kind.TheVariants as kind
 use Rattle.job.specs.declared.Field.{Field}
 use Rattle.job.proofs.Says.{Says}

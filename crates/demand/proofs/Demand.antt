@@ -42,7 +42,6 @@ use Rattle.lines.proofs.Fits.{run_written}
 use Rattle.demand.specs.Breaks.{FirstBroken, issue_fields}
 use Rattle.demand.specs.Demand as demand
 use Rattle.demand.specs.Demand.{job_numbers, run_numbers, Ranks, Lengths, Unbroken, Named, Demand3, Demand1, JobModes}
-use Rattle.demand.specs.WellShaped.{FirstWrong}
 use Rattle.demand.proofs.Agreement.{Agree, by_row, alone}
 use Rattle.demand.proofs.Widths.{first_width, wide}
 use Rattle.demand.proofs.Modes.{breaks_same, none_breaks_seven}

@@ -13,9 +13,8 @@ use Rattle.cells.proofs.Cells.{split, both, both_off}
 use Rattle.word.specs.Word.{word_operands}
 use Rattle.word.specs.Refusal.{number_of}
 use Rattle.word.specs.declared.Refusal.{Refusal}
-use Rattle.word.specs.declared.Refusal.TheVariants.{UnmodelledSettings, DstRow}
+use Rattle.word.specs.declared.Refusal.TheVariants.{DstRow}
 use Rattle.word.specs.declared.Operands.{Operands}
-use Rattle.word.specs.declared.Operands.TheVariants as operands
 use Rattle.control.specs.declared.Control.{Control}
 use Rattle.control.specs.declared.Settings.{Settings}
 use Rattle.control.specs.Record.{bf16_mode, width_of}

@@ -1,16 +1,16 @@
 -- The test of a record's range passes exactly where the record is in range as it is spelled out. Assumes nothing.
-use mathlib.Core.Path.{◌≡◌, refl, ◌∙◌}
-use mathlib.Core.Bool.{Bool, true, false, ◌||◌}
+use mathlib.Core.Path.{◌≡◌}
+use mathlib.Core.Bool.{true}
 use mathlib.Core.Logic.{◌⊎◌, inl, inr, ⊎_elim}
 use Prim.Native.Nat.{ℕ, suc, ◌≤◌}
 use native.Mathlib.Omega.{arith}
-use borrow.Author.Tests.{ltb-true, lt-ltb, eqb-true, eq-eqb}
+use borrow.Author.Tests.{ltb-true, lt-ltb, eqb-true}
 use lib.Dec.{ltb, eqb}
 use lib.ListN.{get_or}
 use Rattle.cells.proofs.Cells.{split}
 use Rattle.cells.proofs.Tests.{each_of, all_of, below_of, of_below}
 use Rattle.control.specs.Record.{start_thread, zero_slot}
-use Rattle.control.specs.Range.{src_tests, src_ok, dst_tests, dst_ok, slot_tests, slot_ok, slots_ok, thread_tests, thread_ok, threads_ok, banks_tests, banks_ok, settings_tests, last_ok, range_tests, in_range}
+use Rattle.control.specs.Range.{src_tests, src_ok, dst_tests, slot_tests, slot_ok, slots_ok, thread_tests, thread_ok, threads_ok, banks_tests, banks_ok, settings_tests, last_ok, range_tests, in_range}
 use Rattle.control.specs.declared.Slot.{Slot}
 use Rattle.control.specs.declared.Src.{Src}
 use Rattle.control.specs.declared.Banks.{Banks}

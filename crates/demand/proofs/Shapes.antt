@@ -1,9 +1,8 @@
 -- The shape that the pre-check finds is the one that is said of the bytes: right exactly when the job is well-shaped, and wrong exactly at its first wrong
 -- place. Assumes nothing.
 use mathlib.Core.Path.{◌≡◌, refl, sym, ap, ◌∙◌, subst}
-use mathlib.Core.Bool.{Bool, true, false, cond, false≢true}
 use mathlib.Core.List.{List, [], ◌∷◌, ◌++◌, append_assoc, append-nil}
-use Prim.Native.Nat.{ℕ, zero, suc, ◌+◌, ◌*◌, ◌≤◌, ◌<◌}
+use Prim.Native.Nat.{ℕ, zero, suc, ◌+◌, ◌≤◌, ◌<◌}
 use native.Mathlib.Omega.{arith}
 use borrow.Author.Tests.{leb-true, leb-false, le-leb, lt-leb}
 use lib.Dec.{leb}
@@ -14,7 +13,7 @@ use Rattle.cells.specs.declared.Width.{Width}
 use Rattle.cells.proofs.Cells.{split}
 use Rattle.job.specs.Fields.{end_at, job_width, whole_field, field_at, fields_from}
 use Rattle.job.specs.Kinds.{read_kind}
-use Rattle.job.specs.Shape.{placed, shape_at_end, onwards, shape_from, shape_of}
+use Rattle.job.specs.Shape.{placed, shape_at_end, shape_from, shape_of}
 use Rattle.job.specs.declared.Cause.{Cause}
 use Rattle.job.specs.declared.Cause.TheVariants.{CutOff}
 use Rattle.job.specs.declared.Kind.{Kind}

@@ -12,7 +12,7 @@ use Rattle.word.specs.declared.Refusal.{Refusal}
 use Rattle.word.specs.declared.Refusal.TheVariants.{StateLength, Shape}
 use Rattle.control.specs.declared.Control.{Control}
 use Rattle.control.specs.Range.{in_range}
-use Rattle.rules.specs.Rules.{rules, operand_rules, lowest, judgement}
+use Rattle.rules.specs.Rules.{rules, operand_rules, judgement}
 use Rattle.rules.specs.declared.Verdict.{Verdict}
 use Rattle.rules.specs.declared.Verdict.TheVariants.{Done, Refused}
 use Rattle.rules.proofs.Reading.{never}

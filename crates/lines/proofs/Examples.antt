@@ -2,7 +2,7 @@
 -- both widths, as texts. Assumes nothing.
 use mathlib.Core.Path.{◌≡◌, refl}
 use mathlib.Core.List.{List, [], ◌∷◌, ◌++◌, flatten}
-use Prim.Native.Nat.{ℕ, ◌+◌}
+use Prim.Native.Nat.{ℕ}
 use lib.ListN.{replicate, set}
 use Rattle.cells.specs.declared.Width.TheVariants.{Bits32, Bits16}
 use Rattle.cells.specs.Places.{half_at, get_at}

@@ -1,16 +1,15 @@
 -- No text is cut: all that a run prints fits, so what a loop over the texts writes is, byte for byte, what the run prints. Assumes nothing.
-use mathlib.Core.Path.{◌≡◌, refl, sym, ap, ◌∙◌}
+use mathlib.Core.Path.{◌≡◌, refl, ap, ◌∙◌}
 use mathlib.Core.List.{List, [], ◌∷◌, ◌++◌, map}
-use Prim.Native.Nat.{ℕ, zero, suc, ◌+◌, ◌^◌, ◌≤◌, ◌<◌}
+use Prim.Native.Nat.{ℕ, zero, suc, ◌+◌, ◌≤◌}
 use native.Mathlib.Omega.{arith}
 use lib.ListN.{length, get_or}
 use Rattle.cells.specs.declared.Width.{Width}
 use Rattle.cells.specs.Layout.{register}
-use Rattle.cells.specs.Places.{row_count}
 use Rattle.cells.specs.State.{State}
 use Rattle.word.specs.Refusal.{number_of, bit_of}
 use Rattle.word.proofs.Numbers.{tabled_byte}
-use Rattle.job.specs.Range.{RowsIn, OutputIn, InRange}
+use Rattle.job.specs.Range.{OutputIn, InRange}
 use Rattle.job.specs.Fields.{fields_from, EachField}
 use Rattle.job.specs.declared.Output.{Output}
 use Rattle.job.specs.declared.Output.TheVariants.{Rows, Register}
@@ -22,11 +21,10 @@ use Rattle.run.specs.Run.{run_of, outcome_answer, run_answer}
 use Rattle.run.specs.declared.Outcome.{Outcome}
 use Rattle.run.specs.declared.Outcome.TheVariants.{Finished, Refused}
 use Rattle.run.proofs.SmallAnswers.{Small, run_small}
-use Rattle.lines.specs.Lines.{Line, row, value, columns, row_lines, output_lines, field_lines, lines_from, lines_of}
-use Rattle.lines.specs.Text.{made, bytes_in, text_of, finished_text, bit_text, refused_text, word_finished, word_refused, word_at}
-use Rattle.lines.specs.Printed.{Printed, finished, refused, line, printed_by, printed_of, printed_text, texts_of}
+use Rattle.lines.specs.Lines.{Line, row_lines, output_lines, field_lines, lines_from, lines_of}
+use Rattle.lines.specs.Text.{made, bytes_in, finished_text, bit_text, refused_text, word_finished, word_refused, word_at}
+use Rattle.lines.specs.Printed.{Printed, line, printed_by, printed_text, texts_of}
 use Rattle.lines.specs.Cursor.{start_cursor, loop_texts}
-use Rattle.lines.specs.declared.Text.{Text}
 use Rattle.lines.proofs.Texts.{made_holds, number_short, numbers_short, bit_short, row_short, value_short}
 use Rattle.lines.proofs.Cursors.{rows_few}
 use Rattle.lines.proofs.Giving.{written_all}

@@ -2,9 +2,8 @@
 use mathlib.Core.Path.{◌≡◌, refl, sym, ap, ◌∙◌}
 use mathlib.Core.Bool.{Bool, true, false, cond, false≢true}
 use mathlib.Core.List.{List, [], ◌∷◌, map}
-use Prim.Native.Nat.{ℕ, zero, suc, ◌+◌, ◌-◌, ◌≤◌, ◌<◌}
+use Prim.Native.Nat.{ℕ, zero, suc, ◌≤◌, ◌<◌}
 use native.Mathlib.Omega.{arith}
-use borrow.Author.Tests.{ltb-true, ltb-false}
 use lib.Dec.{ltb}
 use lib.ListN.{length}
 use Rattle.cells.specs.State.{State, state}
@@ -21,7 +20,7 @@ use Rattle.run.specs.declared.Outcome.TheVariants.{Finished, Refused}
 use Rattle.lines.specs.Lines.{Line}
 use Rattle.lines.specs.Text.{made, Holds, text_of, line_of, finished_text, refused_text}
 use Rattle.lines.specs.Printed.{Printed, finished, refused, line, printed_by, printed_text}
-use Rattle.lines.specs.Cursor.{start_cursor, answered_cursor, line_cursor, lines_at, line_count, what_at, next_in, next_from, next_line, give, next_end, line_next, next_of, printed_from, First, Gives, text_then, loop_texts}
+use Rattle.lines.specs.Cursor.{start_cursor, answered_cursor, lines_at, line_count, next_in, next_from, next_line, next_end, line_next, next_of, printed_from, Gives, text_then, loop_texts}
 use Rattle.lines.specs.declared.Cursor.{Cursor}
 use Rattle.lines.specs.declared.Text.{Text}
 use Rattle.lines.specs.declared.Next.{Next}

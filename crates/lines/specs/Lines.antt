@@ -1,6 +1,6 @@
 -- Document 01, "Numbers to check against": the printed lines: per output in file order, a row as D, its number and sixteen values, a register as G,
 -- thread, register and value. The values are read from the final state. Definitions only.
-use Rattle.std.specs.Prelude.{List, [], ◌∷◌, ◌++◌, ℕ, zero, suc, ◌+◌, get_or}
+use Rattle.std.specs.Prelude.{List, [], ◌∷◌, ◌++◌, ℕ, zero, suc, get_or}
 use Rattle.cells.specs.declared.Width.{Width}
 use Rattle.cells.specs.Layout.{column_count, register, cell}
 use Rattle.cells.specs.Places.{get_at}

@@ -1,6 +1,6 @@
 -- `run::run_fields` meets its contract. Assumes nothing.
 use Rattle.run.proofs.Performs.{written_by}
-use Rattle.run.proofs.Running.{Running, running_first, running_end, turn_on, issue_on}
+use Rattle.run.proofs.Running.{running_first, running_end, turn_on, issue_on}
 use Rattle.run.specs.Perform.{performed}
 use Rattle.walk.proofs.Advanced.{advanced}
 use Rattle.walk.specs.FieldRecord.{field_control}
@@ -9,12 +9,8 @@ use Rattle.rules.proofs.Reading.{acting_is}
 use Rattle.job.proofs.Halves.{settled_on, start_on}
 use Rattle.job.proofs.Walk.{next_after}
 use Rattle.job.specs.Settings.{choices_in}
-use Rattle.control.specs.Halves.{joined}
 use Rattle.cells.proofs.Sizes.{sizes}
-use Rattle.cells.specs.State.{state}
-use lib.ListN.{length}
 use native.Mathlib.Omega.{arith}
-use Prim.Native.Nat.{◌-◌}
 use mathlib.Core.Path.{refl, sym, ◌∙◌}
 use Rattle.run.proofs.run_fields.Goals as goal
 

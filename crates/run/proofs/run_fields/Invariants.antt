@@ -1,11 +1,10 @@
 -- `run::run_fields` meets its contract. Assumes nothing.
-use Rattle.run.proofs.Running.{Running, running_first, running_end, turn_on, issue_on}
+use Rattle.run.proofs.Running.{Running}
 use Rattle.job.specs.Settings.{choices_in}
 use Rattle.control.specs.Halves.{joined}
 use Rattle.cells.specs.State.{state}
 use lib.ListN.{length}
 use Prim.Native.Nat.{◌-◌}
-use mathlib.Core.Path.{refl, sym, ◌∙◌}
 use Rattle.run.proofs.run_fields.Given as goal
 
 abbrev pub invariant-loop-at : goal.invariant-loop-at

@@ -1,13 +1,11 @@
 -- `found::next_line` meets its contract. Assumes nothing.
 use Rattle.lines.proofs.Cursors.{next_silent, next_here, next_on, next_none}
-use Rattle.lines.specs.Cursor.{next_in, next_from, next_line}
-use Rattle.job.proofs.Walk.{next_after, Reached, reached_first, reached_end, reached_stop, reached_on}
+use Rattle.lines.specs.Cursor.{next_in, next_line}
+use Rattle.job.proofs.Walk.{next_after, reached_first, reached_end, reached_stop, reached_on}
 use Rattle.job.proofs.Says.{field_in_range}
 use Rattle.job.specs.Range.{InRange}
-use lib.ListN.{length}
 use native.Mathlib.Omega.{arith}
-use mathlib.Core.Path.{refl, ◌∙◌, subst}
-use Prim.Native.Nat.{◌-◌}
+use mathlib.Core.Path.{refl, subst}
 use Rattle.lines.proofs.found.next_line.Goals as goal
 
 pub loop-at-init : goal.loop-at-init

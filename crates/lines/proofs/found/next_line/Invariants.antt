@@ -1,8 +1,7 @@
 -- `found::next_line` meets its contract. Assumes nothing.
-use Rattle.lines.specs.Cursor.{next_in, next_from, next_line}
-use Rattle.job.proofs.Walk.{next_after, Reached, reached_first, reached_end, reached_stop, reached_on}
+use Rattle.lines.specs.Cursor.{next_from}
+use Rattle.job.proofs.Walk.{Reached}
 use lib.ListN.{length}
-use mathlib.Core.Path.{refl, ◌∙◌, subst}
 use Prim.Native.Nat.{◌-◌}
 use Rattle.lines.proofs.found.next_line.Given as goal
 

@@ -1,11 +1,7 @@
 -- `write::push_row` meets its contract: the columns from here on written give the whole row. Assumes nothing.
 use Rattle.lines.proofs.Texts.{columns_on, columns_done}
-use Rattle.lines.specs.Text.{wrote, values}
-use Rattle.lines.specs.Lines.{columns}
-use Rattle.cells.specs.Places.{digits_of}
 use native.Mathlib.Omega.{arith}
-use Prim.Native.Nat.{◌-◌, ◌≤◌}
-use mathlib.Core.Path.{◌≡◌, sym, ◌∙◌}
+use mathlib.Core.Path.{sym, ◌∙◌}
 use Rattle.lines.proofs.write.push_row.Goals as goal
 
 pub loop-k-init : goal.loop-k-init

@@ -3,7 +3,7 @@ use Rattle.lines.specs.Text.{wrote, values}
 use Rattle.lines.specs.Lines.{columns}
 use Rattle.cells.specs.Places.{digits_of}
 use Prim.Native.Nat.{◌-◌, ◌≤◌}
-use mathlib.Core.Path.{◌≡◌, sym, ◌∙◌}
+use mathlib.Core.Path.{◌≡◌}
 use Rattle.lines.proofs.write.push_row.Given as goal
 
 abbrev pub invariant-loop-k : goal.invariant-loop-k

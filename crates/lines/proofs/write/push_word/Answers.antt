@@ -1,8 +1,7 @@
 -- `write::push_word` meets its contract: what is left of the word written from here on gives the whole. Assumes nothing.
-use Prim.Native.Nat.{◌-◌, ◌≤◌}
-use mathlib.Core.Path.{◌≡◌, refl, sym, ap, ◌∙◌}
+use mathlib.Core.Path.{refl, sym, ap, ◌∙◌}
 use native.Mathlib.Omega.{arith}
-use lib.ListN.{length, drop, drop_of_length-le}
+use lib.ListN.{drop_of_length-le}
 use Rattle.lines.specs.Text.{wrote}
 use Rattle.lines.proofs.Texts.{word_on}
 use Rattle.lines.proofs.write.push_word.Goals as goal

@@ -1,7 +1,7 @@
 -- `write::push_word` meets its contract: what is left of the word written from here on gives the whole. Assumes nothing.
 use Prim.Native.Nat.{◌-◌, ◌≤◌}
-use mathlib.Core.Path.{◌≡◌, refl, sym, ap, ◌∙◌}
-use lib.ListN.{length, drop, drop_of_length-le}
+use mathlib.Core.Path.{◌≡◌}
+use lib.ListN.{length, drop}
 use Rattle.lines.specs.Text.{wrote}
 use Rattle.lines.proofs.write.push_word.Given as goal
 
