@@ -2,24 +2,26 @@
 #![tactic(auto)]
 
 use show::End;
+use std::io::Write;
 
-fn run_job(job: &[u8]) -> End {
+fn run_job<W: Write>(out: &mut W, job: &[u8]) -> End {
     let mut srca = [0u32; cells::SRC_NUMBERS];
     let mut srcb = [0u32; cells::SRC_NUMBERS];
     let mut dst = [0u32; cells::DST_NUMBERS];
     let mut registers = [0u32; cells::REGISTERS];
     let outcome = run::run(job, &mut srca, &mut srcb, &mut dst, &mut registers);
-    let written = show::put_run(libc::STDOUT_FILENO, job, outcome, &dst, &registers);
+    let written = show::put_run(out, job, outcome, &dst, &registers);
     show::told(show::run_end(outcome), written)
 }
 
-fn main() {
+fn main(rt: HostRuntime) {
     let mut buffer = [0u8; cells::JOB_BYTES + 1];
-    let input = show::read(libc::STDIN_FILENO, &mut buffer);
+    let input = show::read(&mut rt.stdin(), &mut buffer);
     if !input.whole {
-        show::say(End::Unread);
+        show::say(&rt, End::Unread);
         return;
     }
     let n = input.len;
-    show::say(run_job(&buffer[..n]));
+    let end = run_job(&mut rt.stdout(), &buffer[..n]);
+    show::say(&rt, end);
 }

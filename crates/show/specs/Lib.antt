@@ -1,2 +1,3 @@
 -- The definitions that the contracts of `show` cite.
 pub mod Ends
+pub mod Input

@@ -8,29 +8,28 @@ pub use end::{End, check_end, run_end, say, told};
 pub use input::{Input, read};
 use lines::Text;
 use run::Outcome;
-
-fn put_first(fd: i32, bytes: &[u8], n: usize) -> bool {
-    if n <= bytes.len() {
-        return io::write_all(fd, &bytes[..n]);
-    }
-    false
-}
+use std::io::Write;
 
 // Whether all of the text was written.
-pub fn put(fd: i32, t: Text) -> bool {
-    let bytes = t.bytes;
-    put_first(fd, &bytes, t.len)
+pub fn put<W: Write>(out: &mut W, t: Text) -> bool {
+    t.len <= t.bytes.len() && out.write_all(&t.bytes[..t.len]).is_ok()
 }
 
 // All texts of a run, in their order: whether all of it was written. Nothing is written after a write that failed.
-pub fn put_run(fd: i32, job: &[u8], outcome: Outcome, dst: &[u32], registers: &[u32]) -> bool {
+pub fn put_run<W: Write>(
+    out: &mut W,
+    job: &[u8],
+    outcome: Outcome,
+    dst: &[u32],
+    registers: &[u32],
+) -> bool {
     let mut c = lines::start();
     loop {
         let n = lines::next_text(job, outcome, c, dst, registers);
         if n.end {
             return true;
         }
-        if !put(fd, n.text) {
+        if !put(out, n.text) {
             return false;
         }
         c = n.after;

@@ -2,20 +2,22 @@
 #![tactic(auto)]
 
 use show::End;
+use std::io::Write;
 
-fn check_job(job: &[u8]) -> End {
+fn check_job<W: Write>(out: &mut W, job: &[u8]) -> End {
     let checked = precheck::precheck(job);
-    let written = show::put(libc::STDOUT_FILENO, lines::checked_text(checked));
+    let written = show::put(out, lines::checked_text(checked));
     show::told(show::check_end(checked), written)
 }
 
-fn main() {
+fn main(rt: HostRuntime) {
     let mut buffer = [0u8; cells::JOB_BYTES + 1];
-    let input = show::read(libc::STDIN_FILENO, &mut buffer);
+    let input = show::read(&mut rt.stdin(), &mut buffer);
     if !input.whole {
-        show::say(End::Unread);
+        show::say(&rt, End::Unread);
         return;
     }
     let n = input.len;
-    show::say(check_job(&buffer[..n]));
+    let end = check_job(&mut rt.stdout(), &buffer[..n]);
+    show::say(&rt, end);
 }
