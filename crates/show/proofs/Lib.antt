@@ -1,0 +1,2 @@
+-- What a loop that writes text after text has written.
+mod Written
