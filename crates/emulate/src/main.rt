@@ -1,10 +1,21 @@
 // Reads a job from standard input, runs it on files of zeros, and prints its count and its lines, or the refusal.
 #![tactic(auto)]
 
+ghost use Rattle.std.specs.Prelude.{◌≡◌, ◌≢◌};
+ghost use Rattle.std.specs.Io.KnownBytes.{Appends};
+ghost use Rattle.run.specs.Run.{run_of};
+ghost use Rattle.show.specs.Bytes.{bytes_printed, zeros};
+ghost use Rattle.show.specs.Ends.{run_end};
+ghost use Rattle.show.specs.declared.end.End.TheVariants as End;
+
 use show::End;
 use std::io::Write;
 
-fn run_job<W: Write>(out: &mut W, job: &[u8]) -> End {
+// Any end but `Unwritten` is that of the run, and then all that it prints was written.
+fn run_job<W: Write>(out: &mut W, job: &[u8]) -> End
+    ensures { result ≢ End.Unwritten → (result ≡ run_end (run_of job.now zeros).outcome)
+        × Appends (W.contents out.old) (W.contents out.new) (bytes_printed job.now) }
+{
     let mut srca = [0u32; cells::SRC_NUMBERS];
     let mut srcb = [0u32; cells::SRC_NUMBERS];
     let mut dst = [0u32; cells::DST_NUMBERS];

@@ -1,10 +1,21 @@
 // Reads a job from standard input and prints whether the pre-check passes it; it runs nothing.
 #![tactic(auto)]
 
+ghost use Rattle.std.specs.Prelude.{◌≡◌, ◌≢◌};
+ghost use Rattle.std.specs.Io.KnownBytes.{Appends};
+ghost use Rattle.precheck.specs.Check.{precheck_of};
+ghost use Rattle.lines.specs.Printed.{checked_text};
+ghost use Rattle.show.specs.Ends.{check_end};
+ghost use Rattle.show.specs.declared.end.End.TheVariants as End;
+
 use show::End;
 use std::io::Write;
 
-fn check_job<W: Write>(out: &mut W, job: &[u8]) -> End {
+// Any end but `Unwritten` is that of the pre-check, and then its text was written.
+fn check_job<W: Write>(out: &mut W, job: &[u8]) -> End
+    ensures { result ≢ End.Unwritten → (result ≡ check_end (precheck_of job.now))
+        × Appends (W.contents out.old) (W.contents out.new) (checked_text (precheck_of job.now)) }
+{
     let checked = precheck::precheck(job);
     let written = show::put(out, lines::checked_text(checked));
     show::told(show::check_end(checked), written)

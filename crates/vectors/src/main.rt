@@ -2,11 +2,16 @@
 // first. Each job runs on files of zeros, and what it prints stands below a line `-- N` with its index.
 #![tactic(auto)]
 
-ghost use Rattle.std.specs.Prelude.{◌<◌};
+ghost use Rattle.std.specs.Prelude.{◌≡◌, ◌<◌, true};
+ghost use Rattle.std.specs.Io.KnownBytes.{Appends};
+ghost use Rattle.show.specs.Bytes.{bytes_printed};
 
 use std::io::{Read, Write};
 
-fn run_job<W: Write>(out: &mut W, job: &[u8]) -> bool {
+// Whether all that the run prints was written.
+fn run_job<W: Write>(out: &mut W, job: &[u8]) -> bool
+    ensures { result ≡ true → Appends (W.contents out.old) (W.contents out.new) (bytes_printed job.now) }
+{
     let mut srca = [0u32; cells::SRC_NUMBERS];
     let mut srcb = [0u32; cells::SRC_NUMBERS];
     let mut dst = [0u32; cells::DST_NUMBERS];
