@@ -1,5 +1,5 @@
-// How a program ended. The language has no exit status: the program says it on a descriptor of its own, and the caller that
-// opened it gives it on. Where nobody did, saying it does nothing.
+// How a program ended. The program says it on a descriptor of its own, and the caller that opened it gives it on as the exit
+// status. Where nobody did, saying it does nothing.
 ghost use Rattle.std.specs.Prelude.{◌≡◌};
 ghost use Rattle.show.specs.Ends.{run_end, check_end, told_end, status_of};
 
