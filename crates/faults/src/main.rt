@@ -1,55 +1,50 @@
-// Reads and writes where it cannot, and prints what `show` answers: standard output is open for writing alone, standard
-// input for reading alone. A failed read has to be told from the end of the input, and no failed write passes for one.
+// Reads and writes where it cannot, and prints what `show` answers: a file that is open for writing alone is read, and one
+// that is open for reading alone is written to. A failed read has to be told from the end of the input, and no failed
+// write passes for one.
 #![tactic(auto)]
 
 use lines::Text;
 use run::Outcome;
+use std::fs::{File, OpenOptions};
+use std::io;
+use std::io::{Read, Write};
 use word::Refusal;
 
-fn put_answer(what: &[u8], answer: bool) {
-    io::write_all(libc::STDOUT_FILENO, what);
-    if answer {
-        io::write_all(libc::STDOUT_FILENO, b": true\n");
-    } else {
-        io::write_all(libc::STDOUT_FILENO, b": false\n");
-    }
-}
-
-fn read_whole(fd: i32) -> bool {
+fn read_whole<R: Read>(from: &mut R) -> bool {
     let mut space = [0u8; 8];
-    let input = show::read(fd, &mut space);
+    let input = show::read(from, &mut space);
     input.whole
 }
 
-fn put_text(fd: i32) -> bool {
+fn put_text<W: Write>(out: &mut W) -> bool {
     let text = Text {
         bytes: [10; 160],
         len: 1,
     };
-    show::put(fd, text)
+    show::put(out, text)
 }
 
-fn put_run(fd: i32, outcome: Outcome) -> bool {
+fn put_run<W: Write>(out: &mut W, outcome: Outcome) -> bool {
     let dst = [0u32; 1];
     let registers = [0u32; 1];
-    show::put_run(fd, b"", outcome, &dst, &registers)
+    show::put_run(out, b"", outcome, &dst, &registers)
 }
 
-fn main() {
-    put_answer(b"reads what can be read", read_whole(libc::STDIN_FILENO));
-    put_answer(b"reads to its end", read_whole(libc::STDIN_FILENO));
-    put_answer(
-        b"reads what cannot be read",
-        read_whole(libc::STDOUT_FILENO),
-    );
-    put_answer(b"writes where it can", put_text(libc::STDOUT_FILENO));
-    put_answer(b"writes where it cannot", put_text(libc::STDIN_FILENO));
-    put_answer(
-        b"writes a finished run where it cannot",
-        put_run(libc::STDIN_FILENO, Outcome::Finished(1)),
-    );
-    put_answer(
-        b"writes a refusal where it cannot",
-        put_run(libc::STDIN_FILENO, Outcome::Refused(Refusal::Shape, 0)),
-    );
+fn main(rt: HostRuntime) -> io::Result<()> {
+    let mut for_writing = OpenOptions::new().write(true).open(&rt, "/dev/null")?;
+    let mut for_reading = File::open(&rt, "/dev/null")?;
+    let whole = read_whole(&mut rt.stdin());
+    println!(rt; "reads what can be read: {whole}")?;
+    let ended = read_whole(&mut rt.stdin());
+    println!(rt; "reads to its end: {ended}")?;
+    let unread = read_whole(&mut for_writing);
+    println!(rt; "reads what cannot be read: {unread}")?;
+    let put = put_text(&mut rt.stdout());
+    println!(rt; "writes where it can: {put}")?;
+    let unwritten = put_text(&mut for_reading);
+    println!(rt; "writes where it cannot: {unwritten}")?;
+    let finished = put_run(&mut for_reading, Outcome::Finished(1));
+    println!(rt; "writes a finished run where it cannot: {finished}")?;
+    let refused = put_run(&mut for_reading, Outcome::Refused(Refusal::Shape, 0));
+    println!(rt; "writes a refusal where it cannot: {refused}")
 }

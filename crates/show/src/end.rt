@@ -1,10 +1,14 @@
-// How a program ended. The language has no exit status: the program says it on a descriptor of its own, and the caller that
-// opened it gives it on. Where nobody did, saying it does nothing.
+// How a program ended. The program says it on a descriptor of its own, and the caller that opened it gives it on as the exit
+// status. Where nobody did, saying it does nothing.
 ghost use Rattle.std.specs.Prelude.{◌≡◌};
 ghost use Rattle.show.specs.Ends.{run_end, check_end, told_end, status_of};
 
 use precheck::Checked;
 use run::Outcome;
+use std::fs::OpenOptions;
+use std::io::{Eprint, Write};
+use std::rt::Files;
+use std::{fs, io};
 
 #[derive(Clone, Copy)]
 pub enum End {
@@ -14,7 +18,8 @@ pub enum End {
     Unwritten,
 }
 
-const STATUS_FILENO: i32 = 3;
+// The name of descriptor 3.
+const STATUS_PATH: &str = "/proc/self/fd/3";
 
 pub fn run_end(outcome: Outcome) -> End
     ensures { result ≡ run_end outcome }
@@ -52,28 +57,32 @@ fn status_of(end: End) -> u8
     }
 }
 
-fn complain(end: End) {
-    match end {
-        End::Done => {}
-        End::Refused => {}
-        End::Unread => {
-            io::write_all(
-                libc::STDERR_FILENO,
-                b"the input cannot be read; nothing was run\n",
-            );
-        }
-        End::Unwritten => {
-            io::write_all(
-                libc::STDERR_FILENO,
-                b"the output cannot be written; what stands there is not whole\n",
-            );
-        }
+// A complaint that cannot be written is passed over: nobody is left to be told.
+fn complain<R: Eprint>(rt: &R, end: End) {
+    let _ = match end {
+        End::Done | End::Refused => Ok(()),
+        End::Unread => rt.eprintln("the input cannot be read; nothing was run"),
+        End::Unwritten => rt.eprintln(
+            "the output cannot be written; what stands there is not whole",
+        ),
+    };
+}
+
+// The descriptor is reached by its name, which opens what stands there anew. That would also write to a file which the caller
+// opened for reading alone, so the name's mode is asked first. A socket cannot be reached in this way.
+fn write_status<R: Files>(rt: &R, status: u8) -> io::Result<()> {
+    if fs::symlink_metadata(rt, STATUS_PATH)?
+        .permissions()
+        .readonly()
+    {
+        return Ok(());
     }
+    let mut file = OpenOptions::new().append(true).open(rt, STATUS_PATH)?;
+    writeln!(file, "{status}")
 }
 
 // The last thing that a program does: the status as one line on its descriptor, and what failed on standard error.
-pub fn say(end: End) {
-    complain(end);
-    io::print_decimal(STATUS_FILENO, status_of(end) as u64);
-    io::write_all(STATUS_FILENO, b"\n");
+pub fn say<R: Files + Eprint>(rt: &R, end: End) {
+    complain(rt, end);
+    let _ = write_status(rt, status_of(end));
 }

@@ -1,6 +1,9 @@
 // Reading the input to its end, with a read that fails told from the end.
-ghost use Rattle.std.specs.Prelude.{◌+◌, ◌≤◌, length};
-ghost use Rattle.io.specs.Counts.{IsPrefixLen};
+ghost use Rattle.std.specs.Prelude.{◌≡◌, ◌<◌, true, length, take};
+ghost use Rattle.std.specs.Io.KnownBytes.{Consumes, IsAtEnd};
+ghost use Rattle.show.specs.Input.{IsPrefixLen};
+
+use std::io::Read;
 
 // How many bytes were read, and whether that is all: false where a read failed.
 #[derive(Clone, Copy)]
@@ -9,40 +12,29 @@ pub struct Input {
     pub whole: bool,
 }
 
-// One read.
-fn read_some(fd: i32, space: &mut [u8]) -> Input
-    ensures { result.len ≤ length space.new }
-{
-    let got = libc::read(fd, space);
-    Input {
-        len: io::count(got, space),
-        whole: got >= 0,
-    }
-}
-
-// One read into the space from an index on.
-fn read_at(fd: i32, space: &mut [u8], at: usize) -> Input
-    requires { at ≤ length space.old }
-    ensures { at + result.len ≤ length space.new }
-{
-    read_some(fd, &mut space[at..])
-}
-
-// Reads until the space is full, the input ends or a read fails.
-pub fn read(fd: i32, space: &mut [u8]) -> Input
-    ensures { IsPrefixLen result.len space.new }
+// Reads until the space is full, the input ends or a read fails. What was read stands at the front of the space.
+pub fn read<R: Read>(from: &mut R, space: &mut [u8]) -> Input
+    ensures bound { IsPrefixLen result.len space.new }
+    ensures taken { Consumes (R.remaining from.old) (R.remaining from.new) (take result.len space.new) }
+    ensures ended { result.whole ≡ true → result.len < length space.new → IsAtEnd (R.remaining from.new) }
 {
     let mut done = 0;
     while done < space.len() {
-        let some = read_at(fd, space, done);
-        let more = some.len;
-        if more == 0 {
-            return Input {
-                len: done,
-                whole: some.whole,
-            };
+        match from.read(&mut space[done..]) {
+            Ok(0) => {
+                return Input {
+                    len: done,
+                    whole: true,
+                };
+            }
+            Ok(more) => done += more,
+            Err(_) => {
+                return Input {
+                    len: done,
+                    whole: false,
+                };
+            }
         }
-        done += more;
     }
     Input {
         len: done,

@@ -2,25 +2,26 @@
 // first. Each job runs on files of zeros, and what it prints stands below a line `-- N` with its index.
 #![tactic(auto)]
 
-ghost use Rattle.std.specs.Prelude.{◌<◌};
+ghost use Rattle.std.specs.Prelude.{◌≡◌, ◌<◌, true};
+ghost use Rattle.std.specs.Io.KnownBytes.{Appends};
+ghost use Rattle.show.specs.Bytes.{bytes_printed};
 
-fn run_job(job: &[u8]) -> bool {
+use std::io::{Read, Write};
+
+// Whether all that the run prints was written.
+fn run_job<W: Write>(out: &mut W, job: &[u8]) -> bool
+    ensures { result ≡ true → Appends (W.contents out.old) (W.contents out.new) (bytes_printed job.now) }
+{
     let mut srca = [0u32; cells::SRC_NUMBERS];
     let mut srcb = [0u32; cells::SRC_NUMBERS];
     let mut dst = [0u32; cells::DST_NUMBERS];
     let mut registers = [0u32; cells::REGISTERS];
     let outcome = run::run(job, &mut srca, &mut srcb, &mut dst, &mut registers);
-    show::put_run(libc::STDOUT_FILENO, job, outcome, &dst, &registers)
+    show::put_run(out, job, outcome, &dst, &registers)
 }
 
-fn put_index(index: u64) -> bool {
-    if !io::write_all(libc::STDOUT_FILENO, b"-- ") {
-        return false;
-    }
-    if !io::print_decimal(libc::STDOUT_FILENO, index) {
-        return false;
-    }
-    io::write_all(libc::STDOUT_FILENO, b"\n")
+fn put_index<W: Write>(out: &mut W, index: u64) -> bool {
+    writeln!(out, "-- {index}").is_ok()
 }
 
 fn wide(x: u8) -> usize
@@ -34,38 +35,46 @@ fn length_of(head: &[u8; 2]) -> usize {
 }
 
 // Fills the slice with a job and runs it; false where the input ends before that, or the output cannot be written.
-fn read_and_run(index: u64, job: &mut [u8]) -> bool {
-    if io::read_full(libc::STDIN_FILENO, job) < job.len() {
+fn read_and_run<R: Read, W: Write>(from: &mut R, out: &mut W, index: u64, job: &mut [u8]) -> bool {
+    if show::read(from, job).len < job.len() {
         return false;
     }
-    if !put_index(index) {
+    if !put_index(out, index) {
         return false;
     }
-    run_job(job)
+    run_job(out, job)
 }
 
-fn run_first(index: u64, length: usize, space: &mut [u8]) -> bool {
+fn run_first<R: Read, W: Write>(
+    from: &mut R,
+    out: &mut W,
+    index: u64,
+    length: usize,
+    space: &mut [u8],
+) -> bool {
     if length <= space.len() {
-        read_and_run(index, &mut space[..length])
+        read_and_run(from, out, index, &mut space[..length])
     } else {
         false
     }
 }
 
 // False where no whole job is left.
-fn run_next(index: u64) -> bool {
+fn run_next<R: Read, W: Write>(from: &mut R, out: &mut W, index: u64) -> bool {
     let mut head = [0u8; 2];
-    if io::read_full(libc::STDIN_FILENO, &mut head) < 2 {
+    if show::read(from, &mut head).len < 2 {
         return false;
     }
     let mut space = [0u8; cells::JOB_BYTES + 1];
-    run_first(index, length_of(&head), &mut space)
+    run_first(from, out, index, length_of(&head), &mut space)
 }
 
 // No more than 65,536 jobs.
-fn main() {
+fn main(rt: HostRuntime) {
+    let mut from = rt.stdin();
+    let mut out = rt.stdout();
     for index in 0..65536u64 {
-        if !run_next(index) {
+        if !run_next(&mut from, &mut out, index) {
             return;
         }
     }
