@@ -40,7 +40,7 @@ look() {
     sums=$(cd "$top" && find crates crates.txt -name must-fail -prune -o -path 'crates/*/out' ! -path 'crates/*/*/out' -prune -o ! -type d -exec sha256sum {} +) ||
         fail "cannot read the sources"
     sources=$(printf '%s\n' "$sums" | sort -k 2 | sha256sum | cut -c 1-64)
-    toolchain=$(rt version) || fail "the toolchain, rt, is not there"
+    toolchain=$(rt version </dev/null) || fail "the toolchain, rt, is not there"
 }
 
 # What the stamp beside a program says of it.

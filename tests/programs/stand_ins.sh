@@ -17,6 +17,8 @@ echo 'kit-1 logic 0123' >"$room/kit/id"
 cat >"$room/kit/rt" <<'RT'
 #!/bin/sh
 kit=$(dirname "$0")
+# the caller's input is not rt's: read here, it would be missing where a job is read
+cat >/dev/null
 if [ "$1" = version ]; then
     cat "$kit/id"
     exit

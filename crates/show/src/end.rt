@@ -7,6 +7,7 @@ use precheck::Checked;
 use run::Outcome;
 use std::fs::OpenOptions;
 use std::io::{Eprint, Write};
+use std::os::unix::fs::FileTypeExt;
 use std::rt::Files;
 use std::{fs, io};
 
@@ -69,7 +70,8 @@ fn complain<R: Eprint>(rt: &R, end: End) {
 }
 
 // The descriptor is reached by its name, which opens what stands there anew. That would also write to a file which the caller
-// opened for reading alone, so the name's mode is asked first. A socket cannot be reached in this way.
+// opened for reading alone, so the name's mode is asked first; and it would wait for the reader of a named pipe that nobody
+// reads, so a pipe is opened for both. A socket cannot be reached in this way.
 fn write_status<R: Files>(rt: &R, status: u8) -> io::Result<()> {
     if fs::symlink_metadata(rt, STATUS_PATH)?
         .permissions()
@@ -77,7 +79,11 @@ fn write_status<R: Files>(rt: &R, status: u8) -> io::Result<()> {
     {
         return Ok(());
     }
-    let mut file = OpenOptions::new().append(true).open(rt, STATUS_PATH)?;
+    let is_pipe = fs::metadata(rt, STATUS_PATH)?.file_type().is_fifo();
+    let mut file = OpenOptions::new()
+        .read(is_pipe)
+        .append(true)
+        .open(rt, STATUS_PATH)?;
     writeln!(file, "{status}")
 }
 
