@@ -1,5 +1,5 @@
 #!/usr/bin/env python3
-"""Brings the repository's own definitions, lemmas and labels to snake case, after /opt/rattle/port/port.py and before anything else.
+"""Brings the repository's own definitions, lemmas and labels to snake case, after the kit's port.py and before anything else.
 
 usage: python3 tools/respell/respell.py     at the top of the repository, once
 
