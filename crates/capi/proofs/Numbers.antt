@@ -1,8 +1,8 @@
 -- No answer of a C function has number 10. Assumes nothing.
+use Rattle.std.specs.Prelude.{Option, Result, Ok, Err, ⊤}
 use mathlib.Core.Path.{◌≡◌, sym, ◌∙◌}
 use mathlib.Core.Bool.{true}
 use mathlib.Core.Logic.{◌≢◌}
-use mathlib.Core.Option.{Option}
 use Prim.Native.Nat.{ℕ, ◌≤◌}
 use native.Mathlib.Omega.{arith}
 use Rattle.cells.specs.Layout.{job_bytes}
@@ -11,8 +11,6 @@ use Rattle.word.specs.Refusal.{number_of, table_numbers, bit_of, Answer, done, p
 use Rattle.word.proofs.Numbers.{tabled, tabled_byte, tabled_not_ten}
 use Rattle.numbers.specs.Record.{record_of}
 use Rattle.rules.specs.Rules.{verdict_answer}
-use Rattle.rules.specs.declared.Verdict.{Verdict}
-use Rattle.rules.specs.declared.Verdict.TheVariants as verdict
 use Rattle.step.specs.Step.{stepped_of, step_answer}
 use Rattle.precheck.specs.Check.{precheck_answer}
 use Rattle.run.specs.Run.{run_answer}
@@ -20,6 +18,7 @@ use Rattle.run.proofs.SmallAnswers.{Small, precheck_small, run_small}
 use Rattle.capi.specs.Numbers.{NoTen}
 use Rattle.capi.specs.Packed.{packed, unpacked_number}
 use Rattle.capi.proofs.Unpacked.{number_unpacks}
+use Rattle.word.specs.declared.Refusal.{Refusal}
 
 count_other : (n : ℕ) → n ≤ job_bytes → unpacked_number n ≢ 10
 count_other n h e = omega (arith, h, e)
@@ -34,9 +33,9 @@ small_other (passed n) s = count_other n s
 small_other (finished n) s = count_other n s
 small_other (refused number place bit) s = refused_other number place bit s.0
 
-verdict_other : (v : Verdict) → unpacked_number (packed (verdict_answer v)) ≢ 10
-verdict_other verdict.Done = count_other 0 (omega arith)
-verdict_other (verdict.Refused r) = refused_other (number_of r) 0 (bit_of r) (tabled r)
+verdict_other : (v : Result ⊤ Refusal) → unpacked_number (packed (verdict_answer v)) ≢ 10
+verdict_other (Ok u) = count_other 0 (omega arith)
+verdict_other (Err r) = refused_other (number_of r) 0 (bit_of r) (tabled r)
 
 pub no_ten : NoTen
 unfolding step_answer

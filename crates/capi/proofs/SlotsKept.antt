@@ -1,4 +1,5 @@
 -- A step leaves every address slot as it was. Assumes nothing.
+use Rattle.std.specs.Prelude.{Result, Ok, Err, ⊤}
 use mathlib.Core.Path.{◌≡◌, refl, ◌∙◌}
 use mathlib.Core.List.{List, [], ◌∷◌}
 use Prim.Native.Nat.{ℕ, zero, suc}
@@ -9,10 +10,9 @@ use Rattle.control.specs.Change.{clear_banks, apply_slot, move_on, set_counters,
 use Rattle.control.specs.declared.Thread.{Thread}
 use Rattle.control.specs.declared.Control.{Control}
 use Rattle.rules.specs.After.{acting, control_after}
-use Rattle.rules.specs.declared.Verdict.{Verdict}
-use Rattle.rules.specs.declared.Verdict.TheVariants as verdict
 use Rattle.rules.proofs.AfterKeeps.{Keeps, record_after_keeps}
 use Rattle.step.specs.Step.{verdict_of, if_done, stepped_of}
+use Rattle.word.specs.declared.Refusal.{Refusal}
 
 -- d has the threads of c but for what is no slot
 pub record SameSlots (c d : Control) : Type 0 where
@@ -53,6 +53,6 @@ module _ (c : Control) where
   unfolding stepped_of
   stepped_slots t w s = go (verdict_of c t w s)
     where
-      go : (v : Verdict) → SameSlots c (if_done v (control_after c t w) c)
-      go verdict.Done = after_slots t w
-      go (verdict.Refused x) = same
+      go : (v : Result ⊤ Refusal) → SameSlots c (if_done v (control_after c t w) c)
+      go (Ok u) = after_slots t w
+      go (Err x) = same

@@ -12,8 +12,7 @@ ghost use Rattle.run.specs.Run.{run_of, run_answer};
 ghost use Rattle.capi.specs.Packed.{packed};
 ghost use Rattle.capi.specs.Step.{thread_byte, numbers_after};
 
-use packing::{pack_checked, pack_outcome, pack_verdict};
-use rules::Verdict;
+use packing::{pack, pack_refusal};
 
 // Threads, as a caller counts them.
 const THREADS: u32 = cells::THREADS as u32;
@@ -22,7 +21,7 @@ const THREADS: u32 = cells::THREADS as u32;
 pub extern "C" fn vintrazzola_precheck(job: &[u8]) -> u64
     ensures { result ≡ packed (precheck_answer job.now) }
 {
-    pack_checked(precheck::precheck(job))
+    pack(precheck::precheck(job))
 }
 
 #[unsafe(no_mangle)]
@@ -37,7 +36,7 @@ pub extern "C" fn vintrazzola_run(
         × (state srca.new srcb.new dst.new registers.new
         ≡ (run_of job.now (state srca.old srcb.old dst.old registers.old)).state) }
 {
-    pack_outcome(run::run(job, srca, srcb, dst, registers))
+    pack(run::run(job, srca, srcb, dst, registers))
 }
 
 // The thread in a byte: any thread out of range becomes the first of these.
@@ -75,11 +74,11 @@ pub extern "C" fn vintrazzola_step(
         dst,
         registers,
     );
-    let verdict = stepped.verdict;
-    let Verdict::Done = verdict else {
-        return pack_verdict(verdict);
-    };
-    let after = stepped.control;
-    numbers::write_but_slots(after, numbers);
-    0
+    match stepped {
+        Ok(after) => {
+            numbers::write_but_slots(after, numbers);
+            0
+        }
+        Err(stopped) => pack_refusal(stopped.refusal.at(0)),
+    }
 }

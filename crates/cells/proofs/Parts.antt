@@ -2,11 +2,12 @@
 -- Assumes nothing.
 use mathlib.Core.Path.{◌≡◌, refl, sym, ap, ap₂, ◌∙◌}
 use mathlib.Core.Bool.{true, ◌&&◌}
-use mathlib.Core.List.{List}
+use mathlib.Core.List.{List, ◌++◌}
 use Prim.Native.Nat.{ℕ, ◌+◌, ◌-◌, ◌*◌, ◌/◌, ◌%◌, ◌<◌, ◌≤◌}
 use native.Mathlib.Nat.{le_refl}
 use native.Mathlib.Omega.{arith}
-use lib.ListN.{length, get_or, set}
+use lib.ListN.{length, get_or, set, take, drop}
+use Rattle.std.proofs.lemmas.List.{take-append-drop, length-take-le, length-drop, get_or-append_right, get_or_append_left, set-append_right, set-append_left}
 use lib.Dec.{leb, ltb}
 use borrow.Author.Tests.{leb-true, leb-false, ltb-true, ltb-false, le-leb, lt-leb, lt-ltb, le-ltb}
 use Rattle.cells.specs.declared.Width.{Width}
@@ -211,6 +212,53 @@ module _ (a : Part) (f : ℕ → ℕ) (d₀ : List ℕ) (lo hi from to : ℕ) wh
     going_end h =
         let all : i ≡ to = omega (arith, g.most) in
         g.is ∙ (λ t. gone a f d₀ (g.low t) ((all ∙ g.high) t))
+
+-- The numbers from number `from` on and before number `to` are these.
+abbrev pub around : List ℕ → ℕ → ℕ → List ℕ → List ℕ
+around d from to s = take from d ++ (s ++ drop (to - from) (drop from d))
+
+module _ (a : Part) (f : ℕ → ℕ) (d₀ : List ℕ) (lo hi from to : ℕ) (h : lo ≤ hi) (low : from ≡ cut_in a (length d₀) lo) (high : to ≡ cut_in a (length d₀) hi) where
+  cut_order : from ≤ to
+  cut_order = rw (low, high) (cut_in_up a (length d₀) lo hi h)
+
+  cut_within : to ≤ length d₀
+  cut_within = rw high (cut_in_most a (length d₀) hi)
+
+  pub around_length : length (take (to - from) (drop from d₀)) ≡ to - from
+  around_length = length-take-le (to - from) (drop from d₀) (omega (arith, length-drop from d₀, cut_order, cut_within))
+
+  -- a loop over those numbers: they begin as they were
+  pub around_start : around d₀ from to (take (to - from) (drop from d₀)) ≡ gone a f d₀ from (from + 0)
+  around_start =
+      ap (λ (s : List ℕ). take from d₀ ++ s) (take-append-drop (to - from) (drop from d₀))
+      ∙ take-append-drop from d₀
+      ∙ gone_none a f d₀ from
+      ∙ ap (gone a f d₀ from) (omega arith)
+
+  -- and one more has its part anew
+  pub around_on : (s : List ℕ) (i v y : ℕ) → around d₀ from to s ≡ gone a f d₀ from (from + i) → i < length s → length s ≡ to - from → v ≡ f (place_in a (length d₀) (from + i)) → y ≡ with_part a (get_or s i 0) v
+      → around d₀ from to (set s i y) ≡ gone a f d₀ from (from + (i + 1))
+  around_on s i v y e l n new is =
+      let front : length (take from d₀) ≡ from = length-take-le from d₀ (omega (arith, cut_order, cut_within)) in
+      let rest = drop (to - from) (drop from d₀) in
+      let at : from + i - from ≡ i = omega arith in
+      let held : get_or (around d₀ from to s) (from + i) 0 ≡ get_or s i 0 =
+      get_or-append_right (take from d₀) (s ++ rest) from (from + i) 0 front (omega arith)
+      ∙ ap (λ (k : ℕ). get_or (s ++ rest) k 0) at
+      ∙ get_or_append_left s rest 0 i l in
+      let store : set (around d₀ from to s) (from + i) y ≡ around d₀ from to (set s i y) =
+      set-append_right (take from d₀) (s ++ rest) from (from + i) y front (omega arith)
+      ∙ ap (λ (k : ℕ). take from d₀ ++ set (s ++ rest) k y) at
+      ∙ ap (λ (r : List ℕ). take from d₀ ++ r) (set-append_left s rest i y l) in
+      sym store
+      ∙ gone_on a f d₀ (around d₀ from to s) from (from + i) v y (omega arith) (omega (arith, cut_order, cut_within)) e new (is ∙ ap (λ (x : ℕ). with_part a x v) (sym held))
+      ∙ ap (gone a f d₀ from) (omega arith)
+
+  pub around_end : (s : List ℕ) (i : ℕ) → around d₀ from to s ≡ gone a f d₀ from (from + i) → i ≡ to - from → around d₀ from to s ≡ over_part a lo hi f d₀
+  unfolding over_part gone
+  around_end s i e n =
+      let all : from + i ≡ to = omega (arith, cut_order) in
+      e ∙ (λ t. gone a f d₀ (low t) ((all ∙ high) t))
 
 -- the whole numbers are all places of 32 bits
 pub whole_part : (lo hi : ℕ) (f : ℕ → ℕ) (d : List ℕ) → over_part Whole lo hi f d ≡ over_at Bits32 (between lo hi) f d

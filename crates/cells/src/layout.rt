@@ -47,18 +47,25 @@ pub struct Span {
     pub count: u32,
 }
 
+// One of a kind for SrcA, and one for SrcB.
+#[derive(Clone, Copy, Default)]
+pub struct ByFile<T> {
+    pub a: T,
+    pub b: T,
+}
+
 // Row `row` of a bank, counted from the start of its file.
 pub fn bank_row(bank: u8, row: u8) -> u32
     ensures { result ≡ bank_row bank row }
 {
-    bank as u32 * BANK_ROWS + row as u32
+    u32::from(bank) * BANK_ROWS + u32::from(row)
 }
 
 // Register `r` of a thread, counted from the start of the registers.
 pub fn register_at(thread: u8, r: u8) -> u32
     ensures { result ≡ register thread r }
 {
-    thread as u32 * THREAD_REGISTERS + r as u32
+    u32::from(thread) * THREAD_REGISTERS + u32::from(r)
 }
 
 // The place of a row's first number.

@@ -11,18 +11,15 @@ use borrow.Author.Tests.{ltb-true, ltb-false}
 use Rattle.cells.specs.Layout.{bank_count, thread_count}
 use Rattle.cells.proofs.Cells.{split}
 use Rattle.cells.proofs.Tests.{Each, each_of, all_of, below_of, of_below, set_keeps}
-use Rattle.word.specs.declared.Clear.{Clear}
+use Rattle.cells.specs.declared.layout.ByFile.{ByFile}
 use Rattle.word.specs.declared.Which.{Which}
-use Rattle.control.specs.Counter.{ten, six, add10, add6}
+use Rattle.control.specs.Counter.{Src, Dst, ten, six, add10, add6, fits10, fits6, both, fit_tests, both_fit, added, stepped}
 use Rattle.control.specs.Record.{start, start_thread, thread_at, slot_used, with_thread, with_banks, with_last, with_counters}
-use Rattle.control.specs.Range.{src_tests, src_ok, dst_tests, dst_ok, slots_ok, thread_tests, thread_ok, threads_ok, banks_tests, banks_ok, last_ok, range_tests, in_range}
+use Rattle.control.specs.Range.{src_ok, dst_ok, slots_ok, thread_tests, thread_ok, threads_ok, banks_tests, banks_ok, last_ok, range_tests, in_range}
 use Rattle.control.specs.Change.{other_bank, cleared, clear_banks, hand_over, step_src, step_dst, step_phase, apply_slot, move_on, set_src, set_dst, set_counters, add_counters}
 use Rattle.control.proofs.Bounds.{tests_of, thread_ok_lem}
-use Rattle.control.proofs.Sums.{wraps, mod6, mod10}
-use Rattle.control.specs.declared.Src.{Src}
-use Rattle.control.specs.declared.Dst.{Dst}
-use Rattle.control.specs.declared.SrcStep.{SrcStep}
-use Rattle.control.specs.declared.DstStep.{DstStep}
+use Rattle.control.proofs.Sums.{wraps, mod6, mod10, sum6, sum10}
+use Rattle.control.specs.declared.Tracked.{Tracked}
 use Rattle.control.specs.declared.PhaseStep.{PhaseStep}
 use Rattle.control.specs.declared.Slot.{Slot}
 use Rattle.control.specs.declared.Thread.{Thread}
@@ -62,7 +59,7 @@ handed_ok : (b : Banks) → banks_ok b ≡ true → banks_ok (hand_over b) ≡ t
 unfolding hand_over
 handed_ok b h = all_of (banks_tests (hand_over b)) ((each_of (banks_tests b) h).0, (other_ok b.unpack, tt))
 
-pub clear_kept : (c : Control) (f : Clear) → in_range c ≡ true → in_range (clear_banks c f) ≡ true
+pub clear_kept : (c : Control) (f : ByFile Bool) → in_range c ≡ true → in_range (clear_banks c f) ≡ true
 unfolding clear_banks
 clear_kept c f h =
     with_banks_kept c _ _ h
@@ -105,16 +102,19 @@ counters_ok : (x : Thread) (d : Dst) (a b : Src) (p : ℕ) → dst_ok d ≡ true
 counters_ok x d a b p hd ha hb hp h =
     all_of (thread_tests (with_counters x d a b p)) (hd, (ha, (hb, (hp, (each_of (thread_tests x) h).1.1.1.1))))
 
-src_ok_lem : (s : Src) (by : SrcStep) → src_ok s ≡ true → src_ok (step_src s by) ≡ true
-src_ok_lem s by h =
-    chosen_ok src_ok by.clear _ _ refl
-    (chosen_ok src_ok by.carry _ _ (simp mod6) (simp (mod6, (each_of (src_tests s) h).1.0)))
+-- a counter of either kind with its carry, whose sums are in range
+module _ {C : Type 0} (fits : C → Bool) (plus : C → C → C) (sum_fits : (x y : C) → fits (plus x y) ≡ true) (t : Tracked C) (step : C) where
+  added_ok : both_fit fits t ≡ true → both_fit fits (added plus t step) ≡ true
+  added_ok h = all_of (fit_tests fits (added plus t step)) (sum_fits t.at step, ((each_of (fit_tests fits t) h).1.0, tt))
 
-dst_ok_lem : (d : Dst) (by : DstStep) → dst_ok d ≡ true → dst_ok (step_dst d by) ≡ true
-dst_ok_lem d by h =
-    chosen_ok dst_ok by.clear _ _ refl
-    (chosen_ok dst_ok by.copy _ _ (simp mod10)
-    (chosen_ok dst_ok by.carry _ _ (simp mod10) (simp (mod10, (each_of (dst_tests d) h).1.0))))
+  stepped_ok : (zero : C) (clear copy carry : Bool) → fits zero ≡ true → both_fit fits t ≡ true → both_fit fits (stepped plus zero t step clear copy carry) ≡ true
+  stepped_ok zero clear copy carry z h =
+      chosen_ok (both_fit fits) clear _ _ (of_both zero z)
+      (chosen_ok (both_fit fits) copy _ _ (of_both (plus t.at step) (sum_fits t.at step))
+      (chosen_ok (both_fit fits) carry _ _ (of_both (plus t.carry step) (sum_fits t.carry step)) (added_ok h)))
+    where
+      of_both : (n : C) → fits n ≡ true → both_fit fits (both n) ≡ true
+      of_both n e = all_of (fit_tests fits (both n)) (e, (e, tt))
 
 phase_ok : (p : ℕ) (by : PhaseStep) → ltb (step_phase p by) 4 ≡ true
 phase_ok p by = chosen_ok (λ (n : ℕ). ltb n 4) by.clear 0 _ refl (wraps 4 (omega arith) (p + by.step))
@@ -124,9 +124,9 @@ unfolding apply_slot
 slot_ok_lem x s h =
     let e = each_of (thread_tests x) h in
     counters_ok x (step_dst x.dst s.dst) (step_src x.a s.a) (step_src x.b s.b) (step_phase x.phase s.phase)
-    (dst_ok_lem x.dst s.dst e.0)
-    (src_ok_lem x.a s.a e.1.0)
-    (src_ok_lem x.b s.b e.1.1.0)
+    (stepped_ok fits10 add10 sum10 x.dst s.dst.step (ten 0) s.dst.clear s.dst.copy s.dst.carry refl e.0)
+    (stepped_ok fits6 add6 sum6 x.a s.a.step (six 0) s.a.clear false s.a.carry refl e.1.0)
+    (stepped_ok fits6 add6 sum6 x.b s.b.step (six 0) s.b.clear false s.b.carry refl e.1.1.0)
     (phase_ok x.phase s.phase)
     h
 
@@ -155,10 +155,9 @@ add_kept c t d b a h =
     with_thread_kept c t _ h
     (λ k.
     let e = each_of (thread_tests x) k in
-    counters_ok x (record { at = add10 x.dst.at (ten d); carry = x.dst.carry }) (record { at = add6 x.a.at (six a); carry = x.a.carry })
-    (record { at = add6 x.b.at (six b); carry = x.b.carry }) x.phase
-    (simp (mod10, (each_of (dst_tests x.dst) e.0).1.0))
-    (simp (mod6, (each_of (src_tests x.a) e.1.0).1.0))
-    (simp (mod6, (each_of (src_tests x.b) e.1.1.0).1.0))
+    counters_ok x (added add10 x.dst (ten d)) (added add6 x.a (six a)) (added add6 x.b (six b)) x.phase
+    (added_ok fits10 add10 sum10 x.dst (ten d) e.0)
+    (added_ok fits6 add6 sum6 x.a (six a) e.1.0)
+    (added_ok fits6 add6 sum6 x.b (six b) e.1.1.0)
     e.1.1.1.0
     k)

@@ -1,33 +1,22 @@
 // When a record is in range.
 ghost use Rattle.std.specs.Prelude.{◌≡◌};
-ghost use Rattle.control.specs.Range.{src_ok, dst_ok, slot_ok, slots_ok, thread_ok, threads_ok, banks_ok, settings_ok, last_ok, in_range};
+ghost use Rattle.control.specs.Range.{slot_ok, slots_ok, thread_ok, threads_ok, banks_ok, settings_ok, last_ok, in_range};
 
-use crate::{Banks, Control, Dst, SLOTS, Settings, Slot, Src, THREADS, Thread};
-
-fn src_ok(s: Src) -> bool
-    ensures { result ≡ src_ok s }
-{
-    (s.at.0 < 64) & (s.carry.0 < 64)
-}
-
-fn dst_ok(d: Dst) -> bool
-    ensures { result ≡ dst_ok d }
-{
-    (d.at.0 < 1024) & (d.carry.0 < 1024)
-}
+use crate::counters::Counter;
+use crate::{Banks, Control, SLOTS, Settings, Slot, THREADS, Thread};
 
 pub fn slot_ok(s: Slot) -> bool
     ensures { result ≡ slot_ok s }
 {
-    (s.a.step.0 < 64) & (s.b.step.0 < 64) & (s.dst.step.0 < 1024) & (s.phase.step < 4)
+    s.a.step.in_range() & s.b.step.in_range() & s.dst.step.in_range() & (s.phase.step < 4)
 }
 
 fn slots_ok(slots: [Slot; SLOTS]) -> bool
     ensures { result ≡ slots_ok slots }
 {
     let mut all = true;
-    for i in 0..SLOTS {
-        all = all & slot_ok(slots[i]);
+    for slot in &slots {
+        all &= slot_ok(*slot);
     }
     all
 }
@@ -35,25 +24,20 @@ fn slots_ok(slots: [Slot; SLOTS]) -> bool
 fn thread_ok(x: Thread) -> bool
     ensures { result ≡ thread_ok x }
 {
-    let d = x.dst;
-    let a = x.a;
-    let b = x.b;
-    let s = x.slots;
-    dst_ok(d)
-        & src_ok(a)
-        & src_ok(b)
+    x.dst.in_range()
+        & x.a.in_range()
+        & x.b.in_range()
         & (x.phase < 4)
         & (x.offset < 1024)
         & (x.fidelity < 4)
-        & slots_ok(s)
+        & slots_ok(x.slots)
 }
 
+#[tactic(auto, unfolding(crate::specs::Range::threads_ok))]
 fn threads_ok(threads: [Thread; THREADS]) -> bool
     ensures { result ≡ threads_ok threads }
 {
-    let x = threads[0];
-    let y = threads[1];
-    let z = threads[2];
+    let [x, y, z] = threads;
     thread_ok(x) & thread_ok(y) & thread_ok(z)
 }
 
@@ -75,12 +59,13 @@ fn last_ok(last: u8) -> bool
     (last == 0) | (last == 16) | (last == 32) | (last == 48)
 }
 
+#[tactic(auto, unfolding(crate::specs::Range::in_range))]
 pub fn in_range(c: Control) -> bool
     ensures { result ≡ in_range c }
 {
-    let s = c.settings;
-    let t = c.threads;
-    let a = c.a;
-    let b = c.b;
-    settings_ok(s) & threads_ok(t) & banks_ok(a) & banks_ok(b) & last_ok(c.last)
+    settings_ok(c.settings)
+        & threads_ok(c.threads)
+        & banks_ok(c.a)
+        & banks_ok(c.b)
+        & last_ok(c.last)
 }

@@ -1,117 +1,31 @@
 // The record at the start, its parts, and the width of Dst's rows.
 ghost use Rattle.std.specs.Prelude.{◌≡◌};
-ghost use Rattle.control.specs.Record.{bf16_mode, width_from, width_of, zero_src, zero_dst, zero_slot, start_thread, start_settings, start_banks, start, thread_at, slot_used, owned_at, matrix_owns, matrix_owns_next};
+ghost use Rattle.control.specs.Record.{bf16_mode, width_from, width_of, zero_slot, start_thread, start, thread_at, slot_used, owned_at, matrix_owns, matrix_owns_next};
 
-use crate::{
-    Banks, Control, Counter6, Counter10, Dst, DstStep, Keep, PhaseStep, SLOTS, Settings, Slot, Src,
-    SrcStep, THREADS, Thread,
-};
+use crate::{Banks, Control, Settings, Slot, Thread};
 use cells::Width;
 
 // ---- at the start
-
-pub(crate) fn zero_src() -> Src
-    ensures { result ≡ zero_src }
-{
-    Src {
-        at: Counter6(0),
-        carry: Counter6(0),
-    }
-}
-
-pub(crate) fn zero_dst() -> Dst
-    ensures { result ≡ zero_dst }
-{
-    Dst {
-        at: Counter10(0),
-        carry: Counter10(0),
-    }
-}
 
 // A slot that changes nothing.
 pub fn zero_slot() -> Slot
     ensures { result ≡ zero_slot }
 {
-    let src = SrcStep {
-        step: Counter6(0),
-        clear: false,
-        carry: false,
-    };
-    let dst = DstStep {
-        step: Counter10(0),
-        clear: false,
-        carry: false,
-        copy: false,
-    };
-    let phase = PhaseStep {
-        step: 0,
-        clear: false,
-    };
-    Slot {
-        a: src,
-        b: src,
-        dst,
-        phase,
-    }
+    Slot::default()
 }
 
 pub fn start_thread() -> Thread
     ensures { result ≡ start_thread }
 {
-    let src = zero_src();
-    let dst = zero_dst();
-    let slots = [zero_slot(); SLOTS];
-    Thread {
-        dst,
-        a: src,
-        b: src,
-        phase: 0,
-        extra: false,
-        offset: 0,
-        fidelity: 0,
-        slots,
-    }
-}
-
-pub(crate) fn start_settings() -> Settings
-    ensures { result ≡ start_settings }
-{
-    let keep = Keep { a: false, b: false };
-    Settings {
-        format: 0,
-        fp32: false,
-        int8: false,
-        fp16a: false,
-        base: 0,
-        keep,
-    }
-}
-
-pub(crate) fn start_banks() -> Banks
-    ensures { result ≡ start_banks }
-{
-    Banks {
-        matrix: 0,
-        unpack: 0,
-        owned0: false,
-        owned1: false,
-    }
+    Thread::default()
 }
 
 // The record before any field acts.
+#[tactic(auto, unfolding(crate::specs::Record::start))]
 pub fn start_record() -> Control
     ensures { result ≡ start }
 {
-    let settings = start_settings();
-    let banks = start_banks();
-    let threads = [start_thread(); THREADS];
-    Control {
-        settings,
-        threads,
-        a: banks,
-        b: banks,
-        last: 0,
-    }
+    Control::default()
 }
 
 // ---- the parts
@@ -119,11 +33,9 @@ pub fn start_record() -> Control
 pub fn thread_at(c: Control, thread: u8) -> Thread
     ensures { result ≡ thread_at c thread }
 {
-    match thread {
-        0 => c.threads[0],
-        1 => c.threads[1],
-        2 => c.threads[2],
-        _ => start_thread(),
+    match c.threads.get(thread as usize) {
+        Some(x) => *x,
+        None => start_thread(),
     }
 }
 
@@ -131,23 +43,17 @@ pub fn thread_at(c: Control, thread: u8) -> Thread
 pub fn slot_used(x: Thread, n: u32) -> Slot
     ensures { result ≡ slot_used x n }
 {
-    let mut i = n as usize;
-    if x.extra {
-        i += 4;
+    let i = if x.extra { n as usize + 4 } else { n as usize };
+    match x.slots.get(i) {
+        Some(slot) => *slot,
+        None => zero_slot(),
     }
-    if i < SLOTS {
-        return x.slots[i];
-    }
-    zero_slot()
 }
 
 fn owned_at(b: Banks, bank: u8) -> bool
     ensures { result ≡ owned_at b bank }
 {
-    if bank == 0 {
-        return b.owned0;
-    }
-    b.owned1
+    if bank == 0 { b.owned0 } else { b.owned1 }
 }
 
 // Whether the matrix unit owns the bank at its own pointer, and the one at the unpackers'.
@@ -176,9 +82,10 @@ pub fn width_from(format: u32, fp32: bool, int8: bool, fp16a: bool) -> Width
     ensures { result ≡ width_from format fp32 int8 fp16a }
 {
     if bf16_mode(format, fp32, int8, fp16a) {
-        return Width::Bits16;
+        Width::Bits16
+    } else {
+        Width::Bits32
     }
-    Width::Bits32
 }
 
 pub fn width_of(s: Settings) -> Width

@@ -1,10 +1,10 @@
 -- The sign and the exponent of a number at their places, bits 18:10. Assumes nothing.
 use mathlib.Core.Path.{◌≡◌, refl, sym, ap, ◌∙◌}
-use Prim.Native.Nat.{ℕ, zero, suc, ◌+◌, ◌*◌, ◌/◌, ◌%◌, ◌^◌, ◌≤◌, ◌<◌}
+use Prim.Native.Nat.{ℕ, ◌+◌, ◌*◌, ◌/◌, ◌%◌, ◌^◌, ◌≤◌, ◌<◌}
 use native.Mathlib.Omega.{arith}
-use mathlib.Core.Bool.{Bool, true, false, not, cond, ◌&&◌}
-use borrow.Author.Tests.{le-leb, lt-leb, leb-true, leb-false, lt-ltb, le-ltb, ltb-true, ltb-false, eq-eqb, ne_eqb, eqb-true, eqb-false}
-use lib.Dec.{eqb, leb, ltb}
+use mathlib.Core.Bool.{Bool, true, false, cond}
+use borrow.Author.Tests.{le-leb, lt-leb, leb-true, leb-false, eq-eqb, ne_eqb, eqb-true, eqb-false}
+use lib.Dec.{eqb, leb}
 use Rattle.cells.specs.declared.layout.File.{File}
 use Rattle.datum.specs.declared.finite.Patterns.{Patterns}
 use Rattle.datum.specs.Read.{sign_of, exponent_of, mantissa_of, number_of, patterns_of}
@@ -25,13 +25,6 @@ sign_at h l = go (leb 256 (h / 1024)) refl
     go true t = t ∙ sym (eq-eqb (h / 2 ^ 18 % 2) 1 (omega (arith, leb-true 256 (h / 1024) t)))
     go false t = t ∙ sym (ne_eqb (h / 2 ^ 18 % 2) 1 (λ e. omega (arith, leb-false 256 (h / 1024) t)))
 
--- these bits alone have the number's sign and exponent
-pub head_sign : (x : ℕ) → sign_of (x / 1024 % 512 * 1024) ≡ sign_of x
-head_sign x = let same : x / 1024 % 512 * 1024 / 2 ^ 18 % 2 ≡ x / 2 ^ 18 % 2 = omega arith in ap (λ (z : ℕ). eqb z 1) same
-
-pub head_exponent : (x : ℕ) → exponent_of (x / 1024 % 512 * 1024) ≡ exponent_of x
-head_exponent x = omega arith
-
 -- every sign, exponent and mantissa are some number's
 pub number_fields : (s : Bool) (e m : ℕ) → e < 256 → m < 1024 → (sign_of (number_of s e m) ≡ s) × (exponent_of (number_of s e m) ≡ e) × (number_of s e m % 2 ^ 10 ≡ m)
 number_fields true e m h k = (eq-eqb (number_of true e m / 2 ^ 18 % 2) 1 (omega arith), omega arith, omega arith)
@@ -44,15 +37,6 @@ fields_number x = go (eqb (x / 2 ^ 18 % 2) 1) refl
     go : (b : Bool) → eqb (x / 2 ^ 18 % 2) 1 ≡ b → x % 524288 ≡ number_of b (exponent_of x) (x % 2 ^ 10)
     go true t = omega (arith, eqb-true (x / 2 ^ 18 % 2) 1 t)
     go false t = let n = eqb-false (x / 2 ^ 18 % 2) 1 t in omega arith
-
--- the fields of a number by its low 19 bits
-pub fields_of_lem : (x : ℕ) (s : Bool) (e m : ℕ) → e < 256 → m < 1024 → x % 524288 ≡ number_of s e m → (sign_of x ≡ s) × (exponent_of x ≡ e) × (x % 2 ^ 10 ≡ m)
-fields_of_lem x s e m h k is =
-    let n = number_fields s e m h k in
-    let sign : x / 2 ^ 18 % 2 ≡ x % 524288 / 2 ^ 18 % 2 = omega arith in
-    let exponent : exponent_of x ≡ exponent_of (x % 524288) = omega arith in
-    let low : x % 2 ^ 10 ≡ x % 524288 % 2 ^ 10 = omega arith in
-    (ap (λ (z : ℕ). eqb z 1) sign ∙ ap sign_of is ∙ n.0, exponent ∙ ap exponent_of is ∙ n.1, low ∙ ap (λ (z : ℕ). z % 2 ^ 10) is ∙ n.2)
 
 -- the mantissa goes by the low ten bits
 pub mantissa_same : (format x m : ℕ) → x % 2 ^ 10 ≡ m → mantissa_of format x ≡ mantissa_of format m
@@ -71,31 +55,6 @@ own_fields p f format x right e0 e1 =
 pub exponent_at : (h : ℕ) → h % 262144 ≡ h / 1024 % 256 * 1024 + h % 1024
 exponent_at h = omega arith
 
-zero_of : (e : ℕ) → eqb (e * 1024) 0 ≡ eqb e 0
-zero_of zero = refl
-zero_of (suc e) = ne_eqb (suc e * 1024) 0 (λ z. omega arith) ∙ sym (ne_eqb (suc e) 0 (λ z. omega arith))
-
--- an exponent of 11 to 254
-middle_of : (e : ℕ) → e < 256 → (ltb (10 * 1024) (e * 1024) && not (eqb (e * 1024) (255 * 1024))) ≡ (ltb 10 e && ltb e 255)
-middle_of e h = go (ltb 10 e) refl (ltb e 255) refl
-  where
-    go : (a : Bool) → ltb 10 e ≡ a → (b : Bool) → ltb e 255 ≡ b → (ltb (10 * 1024) (e * 1024) && not (eqb (e * 1024) (255 * 1024))) ≡ (ltb 10 e && ltb e 255)
-    go false t b u = let k : e ≤ 10 = ltb-false 10 e t in simp (le-ltb (10 * 1024) (e * 1024) (omega arith), t)
-    go true t false u =
-        let k : 255 ≤ e = ltb-false e 255 u in
-        let l : 10 < e = ltb-true 10 e t in
-        simp (lt-ltb (10 * 1024) (e * 1024) (omega arith), eq-eqb (e * 1024) (255 * 1024) (omega arith), t, u)
-    go true t true u =
-        let k : e < 255 = ltb-true e 255 u in
-        let l : 10 < e = ltb-true 10 e t in
-        simp (lt-ltb (10 * 1024) (e * 1024) (omega arith), ne_eqb (e * 1024) (255 * 1024) (λ z. omega arith), t, u)
-
-pub zero_at : (x : ℕ) → eqb (x / 1024 % 256 * 1024) 0 ≡ eqb (exponent_of x) 0
-zero_at x = zero_of (exponent_of x)
-
-pub middle_at : (x : ℕ) → (ltb (10 * 1024) (x / 1024 % 256 * 1024) && not (eqb (x / 1024 % 256 * 1024) (255 * 1024))) ≡ (ltb 10 (exponent_of x) && ltb (exponent_of x) 255)
-middle_at x = middle_of (exponent_of x) (omega arith)
-
 -- an exponent that is neither 0 nor 255, by its place
-pub finite_exponent : (x : ℕ) → (x / 1024 % 256 * 1024 ≡ 0 → ⊥) → (x / 1024 % 256 * 1024 ≡ 255 * 1024 → ⊥) → (0 < exponent_of x) × (exponent_of x < 255)
-finite_exponent x h k = (omega arith, omega arith)
+pub finite_exponent : (x e : ℕ) → e ≡ exponent_of x * 1024 → (e ≡ 0 → ⊥) → (e ≡ 255 * 1024 → ⊥) → (0 < exponent_of x) × (exponent_of x < 255)
+finite_exponent x e is h k = (omega arith, omega arith)

@@ -3,13 +3,13 @@ use mathlib.Core.Path.{◌≡◌, refl, sym, ap, ◌∙◌, subst}
 use mathlib.Core.Bool.{Bool, true, false, not, and-false, or-false, false≢true}
 use mathlib.Core.List.{List, [], ◌∷◌}
 use mathlib.Core.Logic.{◌⊎◌, inl, inr, ◌≢◌, ⊎_elim}
-use mathlib.Core.Option.{Option, none, some}
 use Prim.Native.Nat.{ℕ, ◌+◌, ◌*◌, ◌/◌, ◌%◌, ◌^◌, ◌<◌}
 use native.Mathlib.Omega.{arith}
 use borrow.Author.Tests.{eqb-true, eqb-false, eq-eqb, ne_eqb, le-leb, lt-ltb}
 use lib.Dec.{eqb}
 use lib.ListN.{length, get_or, drop, length-take}
 use lib.Seq.{get_or-take, get_or-drop}
+use Rattle.std.specs.Prelude.{Ok, ⊤, Result, Err, Option, None, Some}
 use Rattle.cells.specs.Cells.{between}
 use Rattle.cells.proofs.Cells.{split, between_true}
 use Rattle.word.specs.Bits.{Range, bit, in_ranges, lowest_below}
@@ -28,13 +28,11 @@ use Rattle.word.proofs.Numbers as numbers
 use Rattle.control.specs.declared.Control.{Control}
 use Rattle.control.specs.Record.{start}
 use Rattle.rules.specs.Rules.{rules, operand_rules, lowest, judgement}
-use Rattle.rules.specs.declared.Verdict.TheVariants as verdict
 use Rattle.rules.proofs.Reading.{WordBit}
 use Rattle.job.specs.Bytes.{le2}
 use Rattle.job.specs.Fields.{payload_at, job_width, field_at, fields_from}
 use Rattle.job.specs.Shape.{shape_of}
-use Rattle.job.specs.declared.Shape.{Shape}
-use Rattle.job.specs.declared.Shape.TheVariants as shape
+use Rattle.job.specs.declared.WrongAt.{WrongAt}
 use Rattle.job.specs.declared.Kind.TheVariants as kind
 use Rattle.job.specs.declared.Field.{Field}
 use Rattle.job.proofs.Says.{Says}
@@ -42,12 +40,13 @@ use Rattle.job.proofs.Shaped.{Sound, sound_at, each_field}
 use Rattle.precheck.specs.Marks.{Marks, unset}
 use Rattle.precheck.specs.Judging.{field_rules}
 use Rattle.precheck.specs.Check.{precheck_of}
-use Rattle.precheck.specs.declared.Checked.TheVariants as checked
 use Rattle.precheck.proofs.Checking.{check_has, precheck_right, precheck_wrong}
 use Rattle.precheck.proofs.FieldBits.{field_bit}
 use Rattle.demand.specs.Breaks.{broken_rule}
 use Rattle.demand.specs.Offending.{Listed, Names, RowFor, LowestOffending, BitTold, three, other, WordTold, unknown, offending, WordBits, RuleBits}
 use Rattle.demand.specs.Demand.{word_in}
+use Rattle.word.specs.Refusal.{refused_at}
+use Rattle.word.proofs.Passing.{same_refused}
 
 pub differ : {A : Type 0} → ◌≡◌ {A = ℕ} 0 1 → A
 differ z = absurd (omega arith)
@@ -92,32 +91,32 @@ module _ (rs : List Range) (w i : ℕ) where
 
 -- ---- the row of a word
 
-listed : (rs : List Row) (op : ℕ) (r : Row) → lookup rs op ≡ some r → Listed r rs
+listed : (rs : List Row) (op : ℕ) (r : Row) → lookup rs op ≡ Some r → Listed r rs
 listed [] op r e = differ (cc)
 listed (x ∷ rs) op r e =
-    split (eqb x.opcode op) (λ t. let e' : some x ≡ some r = rw t at e in let q : x ≡ r = cc in inl (sym q)) (λ t. inr (listed rs op r (rw t at e)))
+    split (eqb x.opcode op) (λ t. let e' : Some x ≡ Some r = rw t at e in let q : x ≡ r = cc in inl (sym q)) (λ t. inr (listed rs op r (rw t at e)))
 
 listed_has : (P : Row → Type 0) (rs : List Row) → Every P rs → (r : Row) → Listed r rs → P r
 listed_has P [] h r l = absurd l
 listed_has P (x ∷ rs) h r l = ⊎_elim (λ q. subst P (sym q) h.0) (λ l. listed_has P rs h.1 r l) l
 
 -- each row is the one of its opcode
-own_row : Every (λ r. lookup table r.opcode ≡ some r) table
+own_row : Every (λ r. lookup table r.opcode ≡ Some r) table
 unfolding table
 own_row =
     refl and refl and refl and refl and refl and refl and refl and refl and refl and refl
     and refl and refl and refl and refl and refl and refl and refl and refl and refl and refl and tt
 
 module _ (w : ℕ) (r : Row) where
-  row_for : row_of w ≡ some r → RowFor w r
+  row_for : row_of w ≡ Some r → RowFor w r
   row_for e = record { listed = listed table (opcode_of w) r e; opcode = found_opcode table (opcode_of w) r e }
 
-  for_row : RowFor w r → row_of w ≡ some r
-  for_row h = ap (lookup table) (sym h.opcode) ∙ listed_has (λ r. lookup table r.opcode ≡ some r) table own_row r h.listed
+  for_row : RowFor w r → row_of w ≡ Some r
+  for_row h = ap (lookup table) (sym h.opcode) ∙ listed_has (λ r. lookup table r.opcode ≡ Some r) table own_row r h.listed
 
 -- ---- the lowest offending bit
 
-lowest_in : (w : ℕ) (r : Row) → row_of w ≡ some r → stray_in (some r) w ≡ true → LowestOffending w (offending_in (some r) w)
+lowest_in : (w : ℕ) (r : Row) → row_of w ≡ Some r → stray_in (Some r) w ≡ true → LowestOffending w (offending_in (Some r) w)
 lowest_in w r q e =
     let rs = r.named in
     let f = stray_at rs w in
@@ -131,18 +130,18 @@ unfolding unnamed_bit offending_bit
 lowest_of w e = go (row_of w) refl e
   where
     go : (o : Option Row) → row_of w ≡ o → stray_in o w ≡ true → LowestOffending w (offending_in o w)
-    go none q e = absurd (false≢true e)
-    go (some r) q e = lowest_in w r q e
+    go None q e = absurd (false≢true e)
+    go (Some r) q e = lowest_in w r q e
 
 -- and back
 module _ (w b : ℕ) (h : LowestOffending w b) where
   stray_at_lem : stray_at h.row.named w b ≡ true
   stray_at_lem = on_stray h.row.named w b h.one h.unnamed
 
-  is_stray : stray_in (some h.row) w ≡ true
+  is_stray : stray_in (Some h.row) w ≡ true
   is_stray = some_at (stray_at h.row.named w) 24 b h.below stray_at_lem
 
-  is_lowest : offending_in (some h.row) w ≡ b
+  is_lowest : offending_in (Some h.row) w ≡ b
   is_lowest = lowest_once (stray_at h.row.named w) 24 b h.below stray_at_lem (λ i l. off_stray h.row.named w i (h.lower i l))
 
 -- ---- the word reader
@@ -157,8 +156,8 @@ unfolding unknown_opcode
 no_row w h = go (row_of w) refl
   where
     go : (o : Option Row) → row_of w ≡ o → unknown_in o ≡ true
-    go none q = refl
-    go (some r) q = absurd (h r (row_for w r q))
+    go None q = refl
+    go (Some r) q = absurd (h r (row_for w r q))
 
 pub word_bits : (w : ℕ) → WordBits w
 unfolding word_answer unknown_opcode
@@ -170,19 +169,19 @@ word_bits w =
     }
   where
     told : (n : ℕ) (x : Option ℕ) (o : Option Row) → row_of w ≡ o → answer_in o w ≡ refused_by n x → WordTold w n x
-    told n x none q e = let a : 2 ≡ n = cc in let b : none ≡ x = cc in unknown (sym a) (sym b) (known_row w (ap unknown_in q))
-    told n x (some r) q e =
-        split (stray_in (some r) w)
+    told n x None q e = let a : 2 ≡ n = cc in let b : None ≡ x = cc in unknown (sym a) (sym b) (known_row w (ap unknown_in q))
+    told n x (Some r) q e =
+        split (stray_in (Some r) w)
         (λ t.
-        let e' : refused_by 3 (some (offending_in (some r) w)) ≡ refused_by n x = rw t at e in
+        let e' : refused_by 3 (Some (offending_in (Some r) w)) ≡ refused_by n x = rw t at e in
         let a : 3 ≡ n = cc in
-        let b : some (offending_in (some r) w) ≡ x = cc in
-        offending (offending_in (some r) w) (sym a) (sym b) (lowest_in w r q t))
+        let b : Some (offending_in (Some r) w) ≡ x = cc in
+        offending (offending_in (Some r) w) (sym a) (sym b) (lowest_in w r q t))
         (λ t. let e' : fields _ _ ≡ refused_by n x = rw t at e in differ (cc))
 
-    two : (o : Option Row) → unknown_in o ≡ true → answer_in o w ≡ refused_by 2 none
-    two none e = refl
-    two (some r) e = absurd (false≢true e)
+    two : (o : Option Row) → unknown_in o ≡ true → answer_in o w ≡ refused_by 2 None
+    two None e = refl
+    two (Some r) e = absurd (false≢true e)
 
 -- ---- the rules 2 and 3
 
@@ -217,7 +216,7 @@ module _ (c : Control) (t w : ℕ) where
       }
 
   -- a word with an offending bit is judged by that
-  pub judged_three : (b : ℕ) → LowestOffending w b → judgement c t w ≡ verdict.Refused (refusal.UnnamedBit b)
+  pub judged_three : (b : ℕ) → LowestOffending w b → judgement c t w ≡ Err (refusal.UnnamedBit b)
   unfolding judgement rules lowest
   judged_three b h = rw (is_known w b h, is_unnamed w b h, is_offending w b h)
 
@@ -255,9 +254,9 @@ module _ (job : List ℕ) where
         get_or-take n rest i 0 (omega (arith, l, h, length-take n rest)) ∙ get_or-drop (f.place + 3) job i 0
 
     -- tag and word of an issue field
-    issue_word : (t w : ℕ) → f.kind ≡ kind.Issue t w → (get_or job f.place 0 ≡ 5) × (word_in job f.place ≡ w)
+    issue_word : (t w : ℕ) → f.kind ≡ Ok (kind.Issue t w) → (get_or job f.place 0 ≡ 5) × (word_in job f.place ≡ w)
     issue_word t w q =
-        let a : Says (job_width job) (get_or job f.place 0) payload (kind.Issue t w) = subst (Says (job_width job) (get_or job f.place 0) payload) q s.says in
+        let a : Says (job_width job) (get_or job f.place 0) payload (Ok (kind.Issue t w)) = subst (Says (job_width job) (get_or job f.place 0) payload) q s.says in
         let at : (i j : ℕ) → i < 5 → f.place + 3 + i ≡ j → get_or payload i 0 ≡ get_or job j 0 = λ i j h e. byte a.2 i h ∙ ap (λ (k : ℕ). get_or job k 0) e in
         let p = f.place in
         let b1 = at 1 (p + 4) (omega arith) (omega arith) in
@@ -266,7 +265,7 @@ module _ (job : List ℕ) where
         let b4 = at 4 (p + 4 + 2 + 1) (omega arith) (omega arith) in
         (a.1, sym (a.4 ∙ (λ i. b1 i + 256 * b2 i + 65536 * (b3 i + 256 * b4 i))))
 
-    field_told : (c : Control) (m : Marks) (r : Refusal) → lowest (field_rules c m f.kind) ≡ verdict.Refused r → Told r f.place
+    field_told : (c : Control) (m : Marks) (r : Refusal) → lowest (field_rules c m f.kind) ≡ Err r → Told r f.place
     field_told c m r e = go (has_bit r)
       where
         go : HasBit r → Told r f.place
@@ -277,14 +276,13 @@ module _ (job : List ℕ) where
             (λ z. x.0, three i (ap number_of q) (ap bit_of q) (subst (λ (w : ℕ). LowestOffending w i) (sym x.1) l))
         go (numbers.other n b) = not_three r f.place n
 
-  pub precheck_told : (r : Refusal) (p : ℕ) → precheck_of job ≡ checked.Refused r p → Told r p
+  pub precheck_told : (r : Refusal) (p : ℕ) → precheck_of job ≡ Err (refused_at r p) → Told r p
   precheck_told r p e = go (shape_of job) refl
     where
-      go : (x : Shape) → shape_of job ≡ x → Told r p
-      go shape.Right w =
+      go : (x : Result ⊤ WrongAt) → shape_of job ≡ x → Told r p
+      go (Ok x) w =
           check_has Told job (fields_from job 0) (each_field _ job (λ at h. field_told (field_at job at) (sound_at job at h)) 0)
           start (unset (job_width job)) 0 r p (sym (precheck_right job w) ∙ e)
-      go (shape.WrongAt q) w =
-          let x = sym (precheck_wrong job q w) ∙ e in
-          let y : refusal.Shape ≡ r = cc in
-          not_three r p (λ z. omega (arith, ap number_of y, z))
+      go (Err wrong) w =
+          let x = same_refused (sym (precheck_wrong job wrong.0 w) ∙ e) in
+          not_three r p (λ z. omega (arith, ap number_of x.0, z))

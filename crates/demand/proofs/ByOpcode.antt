@@ -1,8 +1,8 @@
 -- A word whose step is done acts by the class of its opcode's row: what is so of the table's rows by their opcodes is so of it. Assumes nothing.
+use Rattle.std.specs.Prelude.{Option, None, Some, Ok}
 use mathlib.Core.Path.{◌≡◌, refl, sym, ap, ◌∙◌}
 use mathlib.Core.Bool.{Bool, false, false≢true}
 use mathlib.Core.List.{List}
-use mathlib.Core.Option.{Option, none, some}
 use Prim.Native.Nat.{ℕ}
 use Rattle.cells.specs.State.{State}
 use Rattle.cells.specs.Tests.{one_of}
@@ -17,7 +17,6 @@ use Rattle.word.proofs.Rule.{found_of_lem, found_opcode}
 use Rattle.control.specs.declared.Control.{Control}
 use Rattle.rules.specs.Rules.{rules, operand_rules}
 use Rattle.rules.specs.After.{acting_of, acting}
-use Rattle.rules.specs.declared.Verdict.TheVariants.{Done}
 use Rattle.step.specs.Step.{verdict_of}
 use Rattle.demand.specs.Breaks.{broken_rule}
 use Rattle.demand.proofs.Steps.{step_demand1}
@@ -33,7 +32,7 @@ pub record Acts (w : ℕ) : Type 0 where
 
 module _ (w : ℕ) where
   -- a word that has a row
-  in_row : unknown_opcode w ≡ false → unnamed_bit w ≡ false → (r : Row) → row_of w ≡ some r → Acts w
+  in_row : unknown_opcode w ≡ false → unnamed_bit w ≡ false → (r : Row) → row_of w ≡ Some r → Acts w
   unfolding acting read_word word_operands
   in_row u b r e =
       record {
@@ -49,10 +48,10 @@ module _ (w : ℕ) where
   read_acts u b = go (row_of w) refl
     where
       go : (x : Option Row) → row_of w ≡ x → Acts w
-      go none e = absurd (false≢true (sym u ∙ ap unknown_in e))
-      go (some r) e = in_row u b r e
+      go None e = absurd (false≢true (sym u ∙ ap unknown_in e))
+      go (Some r) e = in_row u b r e
 
-pub done_acts : (c : Control) (t w : ℕ) (s : State) → verdict_of c t w s ≡ Done → Acts w
+pub done_acts : (c : Control) (t w : ℕ) (s : State) → verdict_of c t w s ≡ Ok tt → Acts w
 unfolding broken_rule rules operand_rules
 done_acts c t w s e =
     let q = (step_demand1 c t w s).unbroken e in

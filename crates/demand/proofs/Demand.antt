@@ -8,6 +8,7 @@ use native.Mathlib.Nat.{zero-add}
 use native.Mathlib.Omega.{arith}
 use lib.Dec.{eqb, ltb}
 use lib.ListN.{length, get_or, replicate}
+use Rattle.std.specs.Prelude.{⊤, Result, Ok, Err}
 use Rattle.cells.specs.declared.Width.{Width}
 use Rattle.cells.specs.declared.Width.TheVariants.{Bits32, Bits16}
 use Rattle.cells.specs.Layout.{src_rows, src_numbers, dst_numbers, register_count}
@@ -24,17 +25,13 @@ use Rattle.cells.specs.State.{State, sized}
 use Rattle.cells.proofs.Sizes.{sizes, sized_of, unsized}
 use Rattle.job.specs.Fields.{job_width, fields_from}
 use Rattle.job.specs.Shape.{shape_of}
-use Rattle.job.specs.declared.Shape.{Shape}
-use Rattle.job.specs.declared.Shape.TheVariants.{Right, WrongAt}
+use Rattle.job.specs.declared.WrongAt.{WrongAt}
 use Rattle.job.proofs.Shaped.{sound}
 use Rattle.precheck.specs.Marks.{unset_but, unset}
 use Rattle.precheck.specs.Check.{precheck_of}
-use Rattle.precheck.specs.declared.Checked.{Checked}
-use Rattle.precheck.specs.declared.Checked.TheVariants as checked
 use Rattle.precheck.proofs.Checking.{precheck_passed, precheck_right, precheck_wrong}
 use Rattle.run.specs.Run.{Ran, ran, run_of}
 use Rattle.run.proofs.Running.{run_passed, run_refused, run_unsized}
-use Rattle.run.specs.declared.Outcome.TheVariants.{Finished, Refused}
 use Rattle.lines.specs.Lines.{lines_of}
 use Rattle.lines.specs.Text.{refused_text}
 use Rattle.lines.specs.Printed.{printed_by, printed_of, printed_text, texts_of}
@@ -53,6 +50,9 @@ use Rattle.demand.proofs.Refused.{none_breaks, first_breaks}
 use Rattle.demand.proofs.Rules.{ranks}
 use Rattle.demand.proofs.Bits.{Told, not_three, precheck_told}
 use Rattle.demand.proofs.Values.{values_same}
+use Rattle.word.specs.declared.Refused.{Refused}
+use Rattle.word.specs.Refusal.{refused_at}
+use Rattle.word.proofs.Passing.{same_refused}
 
 -- ---- at the start all is unset, so any two states of the right sizes agree
 
@@ -84,52 +84,49 @@ or_right false b h = h
 
 module _ (job : List ℕ) where
   -- a job that passes, over two states
-  both_end : (n : ℕ) → precheck_of job ≡ checked.Passed n → (s t : State) → sized s ≡ true → sized t ≡ true
+  both_end : (n : ℕ) → precheck_of job ≡ Ok n → (s t : State) → sized s ≡ true → sized t ≡ true
       → Ended (job_width job) (fields_from job 0) (unset (job_width job)) 0 (run_of job s) (run_of job t)
   both_end n e s t p q =
       let x = precheck_passed job n e in
       rw (run_passed job s p n e, run_passed job t q n e)
       (ended job (fields_from job 0) start (unset (job_width job)) s t 0 n (sound job 0) (wide job x.0) start_kept x.1 (start_agrees (job_width job) s t p q))
 
-  found : shape_of job ≡ Right → (r : Refusal) (p : ℕ) → precheck_of job ≡ checked.Refused r p → FirstBroken job start (unset (job_width job)) (fields_from job 0) r p
+  found : shape_of job ≡ Ok tt → (r : Refusal) (p : ℕ) → precheck_of job ≡ Err (refused_at r p) → FirstBroken job start (unset (job_width job)) (fields_from job 0) r p
   found w r p e = (first_breaks job (fields_from job 0) start (unset (job_width job)) 0 r p (sym (precheck_right job w) ∙ e)).0
 
-  passes : shape_of job ≡ Right → Unbroken job → precheck_of job ≡ checked.Passed (issue_fields (fields_from job 0))
+  passes : shape_of job ≡ Ok tt → Unbroken job → precheck_of job ≡ Ok (issue_fields (fields_from job 0))
   passes w h = go (precheck_of job) refl
     where
-      go : (x : Checked) → precheck_of job ≡ x → x ≡ checked.Passed (issue_fields (fields_from job 0))
-      go (checked.Passed n) e = ap checked.Passed (counted job (fields_from job 0) start (unset (job_width job)) 0 n (precheck_passed job n e).1 ∙ zero-add _)
-      go (checked.Refused r p) e = let b = found w r p e in absurd (false≢true (sym (h b.index r) ∙ b.breaking))
+      go : (x : Result ℕ Refused) → precheck_of job ≡ x → x ≡ Ok (issue_fields (fields_from job 0))
+      go (Ok n) e = ap Ok (counted job (fields_from job 0) start (unset (job_width job)) 0 n (precheck_passed job n e).1 ∙ zero-add _)
+      go (Err x) e = let b = found w x.refusal x.place e in absurd (false≢true (sym (h b.index x.refusal) ∙ b.breaking))
 
-  finishes : (n : ℕ) → precheck_of job ≡ checked.Passed n → (s : State) → sized s ≡ true → (run_of job s).outcome ≡ Finished (issue_fields (fields_from job 0))
-  finishes n e s p = (both_end n e s s p p).finished ∙ ap Finished (zero-add _)
+  finishes : (n : ℕ) → precheck_of job ≡ Ok n → (s : State) → sized s ≡ true → (run_of job s).outcome ≡ Ok (issue_fields (fields_from job 0))
+  finishes n e s p = (both_end n e s s p p).finished ∙ ap Ok (zero-add _)
 
-  prints : (n : ℕ) → precheck_of job ≡ checked.Passed n → (s t : State) → sized s ≡ true → sized t ≡ true → printed_of job (run_of job s) ≡ printed_of job (run_of job t)
+  prints : (n : ℕ) → precheck_of job ≡ Ok n → (s t : State) → sized s ≡ true → sized t ≡ true → printed_of job (run_of job s) ≡ printed_of job (run_of job t)
   unfolding lines_of printed_by
   prints n e s t p q = rw (finishes n e s p, finishes n e t q, (both_end n e s t p q).lines)
 
   -- a job that the pre-check turns down gets one of 1 to 8
-  tabled : (r : Refusal) (p : ℕ) → precheck_of job ≡ checked.Refused r p → one_of (number_of r) job_numbers ≡ true
+  tabled : (r : Refusal) (p : ℕ) → precheck_of job ≡ Err (refused_at r p) → one_of (number_of r) job_numbers ≡ true
   tabled r p e = go (shape_of job) refl
     where
-      go : (w : Shape) → shape_of job ≡ w → one_of (number_of r) job_numbers ≡ true
-      go Right w = or_right (eqb (number_of r) 1) _ (first_breaks job (fields_from job 0) start (unset (job_width job)) 0 r p (sym (precheck_right job w) ∙ e)).1
-      go (WrongAt q) w =
-          let x = sym (precheck_wrong job q w) ∙ e in
-          let y : refusal.Shape ≡ r = cc in
-          rw (← y)
+      go : (w : Result ⊤ WrongAt) → shape_of job ≡ w → one_of (number_of r) job_numbers ≡ true
+      go (Ok x) w = or_right (eqb (number_of r) 1) _ (first_breaks job (fields_from job 0) start (unset (job_width job)) 0 r p (sym (precheck_right job w) ∙ e)).1
+      go (Err wrong) w =
+          let x = same_refused (sym (precheck_wrong job wrong.0 w) ∙ e) in
+          rw (← x.0)
 
   -- by its shape, or by a rule
-  named_by : (r : Refusal) (p : ℕ) → precheck_of job ≡ checked.Refused r p → Named job r p
+  named_by : (r : Refusal) (p : ℕ) → precheck_of job ≡ Err (refused_at r p) → Named job r p
   named_by r p e = go (shape_of job) refl
     where
-      go : (w : Shape) → shape_of job ≡ w → Named job r p
-      go Right w = demand.rule (right_well job w) (found w r p e)
-      go (WrongAt q) w =
-          let x = sym (precheck_wrong job q w) ∙ e in
-          let y : q ≡ p = cc in
-          let z : refusal.Shape ≡ r = cc in
-          demand.shape (sym z) (rw (← y) (wrong_first job q w))
+      go : (w : Result ⊤ WrongAt) → shape_of job ≡ w → Named job r p
+      go (Ok x) w = demand.rule (right_well job w) (found w r p e)
+      go (Err wrong) w =
+          let x = same_refused (sym (precheck_wrong job wrong.0 w) ∙ e) in
+          demand.shape (sym x.0) (rw (← x.1) (wrong_first job wrong.0 w))
 
   size : (s : State) → Lengths s → sized s ≡ true
   size s l = sized_of s (sizes_of s l)
@@ -165,36 +162,31 @@ module _ (job : List ℕ) where
 
   module _ (s : State) where
     -- what a run answers and leaves, where both are known
-    told : (a : Refusal) (b : ℕ) → run_of job s ≡ ran (Refused a b) s → (r : Refusal) (p : ℕ) → (run_of job s).outcome ≡ Refused r p
-        → ((run_of job s).state ≡ s) × (Refused a b ≡ Refused r p)
-    told a b q r p o = (ap (λ (z : Ran). z.state) q, sym (ap (λ (z : Ran). z.outcome) q) ∙ o)
+    told : (a : Refusal) (b : ℕ) → run_of job s ≡ ran (Err (refused_at a b)) s → (r : Refusal) (p : ℕ) → (run_of job s).outcome ≡ Err (refused_at r p)
+        → ((run_of job s).state ≡ s) × ((a ≡ r) × (b ≡ p))
+    told a b q r p o = (ap (λ (z : Ran). z.state) q, same_refused (sym (ap (λ (z : Ran). z.outcome) q) ∙ o))
 
     -- a run refuses by the state's lengths, or as the pre-check does; else it finishes
-    refused : (r : Refusal) (p : ℕ) → (run_of job s).outcome ≡ Refused r p → ((run_of job s).state ≡ s) × ((number_of r ≡ 9) ⊎ (precheck_of job ≡ checked.Refused r p))
+    refused : (r : Refusal) (p : ℕ) → (run_of job s).outcome ≡ Err (refused_at r p) → ((run_of job s).state ≡ s) × ((number_of r ≡ 9) ⊎ (precheck_of job ≡ Err (refused_at r p)))
     refused r p o =
         split (sized s) (λ size. go size (precheck_of job) refl)
         (λ size.
         let x = told refusal.StateLength 0 (run_unsized job s size) r p o in
-        let y = x.1 in
-        let k : refusal.StateLength ≡ r = cc in
-        (x.0, inl (sym (ap number_of k))))
+        (x.0, inl (sym (ap number_of x.1.0))))
       where
-        go : sized s ≡ true → (v : Checked) → precheck_of job ≡ v → ((run_of job s).state ≡ s) × ((number_of r ≡ 9) ⊎ (precheck_of job ≡ checked.Refused r p))
-        go size (checked.Passed n) w =
-            let y : Finished (issue_fields (fields_from job 0)) ≡ Refused r p = sym (finishes n w s size) ∙ o in
+        go : sized s ≡ true → (v : Result ℕ Refused) → precheck_of job ≡ v → ((run_of job s).state ≡ s) × ((number_of r ≡ 9) ⊎ (precheck_of job ≡ Err (refused_at r p)))
+        go size (Ok n) w =
+            let y : Ok (issue_fields (fields_from job 0)) ≡ Err (refused_at r p) = sym (finishes n w s size) ∙ o in
             absurd (let z : ◌≡◌ {A = ℕ} 0 1 = cc in omega arith)
-        go size (checked.Refused a b) w =
-            let x = told a b (run_refused job s size a b w) r p o in
-            let y = x.1 in
-            let k : a ≡ r = cc in
-            let l : b ≡ p = cc in
-            (x.0, inr (w ∙ (λ i. checked.Refused (k i) (l i))))
+        go size (Err e) w =
+            let x = told e.refusal e.place (run_refused job s size e.refusal e.place w) r p o in
+            (x.0, inr (w ∙ (λ i. Err (refused_at (x.1.0 i) (x.1.1 i)))))
 
     -- 9 has no bit, any other number that of the pre-check
-    told_by : (r : Refusal) (p : ℕ) → (run_of job s).outcome ≡ Refused r p → Told job r p
+    told_by : (r : Refusal) (p : ℕ) → (run_of job s).outcome ≡ Err (refused_at r p) → Told job r p
     told_by r p o = ⊎_elim (λ n. not_three job r p (λ z. omega (arith, n, z))) (precheck_told job r p) (refused r p o).1
 
-    line : (r : Refusal) (p : ℕ) → (run_of job s).outcome ≡ Refused r p → texts_of job (run_of job s) ≡ refused_text (number_of r) p (bit_of r) ∷ []
+    line : (r : Refusal) (p : ℕ) → (run_of job s).outcome ≡ Err (refused_at r p) → texts_of job (run_of job s) ≡ refused_text (number_of r) p (bit_of r) ∷ []
     unfolding printed_by printed_text
     line r p o = rw o
 
@@ -212,17 +204,15 @@ module _ (job : List ℕ) where
 
   -- ---- the BF16 mode
 
-  check_modes : job_width job ≡ Bits16 → (r : Refusal) (p : ℕ) → precheck_of job ≡ checked.Refused r p → number_of r ≢ 7
+  check_modes : job_width job ≡ Bits16 → (r : Refusal) (p : ℕ) → precheck_of job ≡ Err (refused_at r p) → number_of r ≢ 7
   check_modes q r p e z = go (shape_of job) refl
     where
-      go : (w : Shape) → shape_of job ≡ w → ⊥
-      go Right w =
+      go : (w : Result ⊤ WrongAt) → shape_of job ≡ w → ⊥
+      go (Ok x) w =
           let b = found w r p e in
           false≢true (sym (none_breaks_seven job q (fields_from job 0) start (unset (job_width job)) (wide job w) b.index) ∙ sym (breaks_same r refusal.DstRow z job start (unset (job_width job)) (fields_from job 0) b.index) ∙ b.breaking)
-      go (WrongAt y) w =
-          let x = sym (precheck_wrong job y w) ∙ e in
-          let k : refusal.Shape ≡ r = cc in
-          omega (arith, ap number_of k, z)
+      go (Err wrong) w =
+          omega (arith, ap number_of (same_refused (sym (precheck_wrong job wrong.0 w) ∙ e)).0, z)
 
   pub job_modes : JobModes job
   job_modes =

@@ -4,6 +4,7 @@ use mathlib.Core.Bool.{true}
 use mathlib.Core.List.{List, [], ◌∷◌}
 use Prim.Native.Nat.{ℕ, ◌<◌}
 use borrow.Author.Tests.{not-false, ltb-true}
+use Rattle.std.specs.Prelude.{Result, Ok, Err}
 use Rattle.cells.specs.Layout.{thread_count, src_numbers, dst_numbers, register_count, one_register}
 use Rattle.cells.specs.declared.Width.{Width}
 use Rattle.cells.specs.declared.Width.TheVariants.{Bits32}
@@ -17,12 +18,12 @@ use Rattle.control.specs.Record.{width_of}
 use Rattle.rules.specs.Rules.{◌when◌, rules, lowest}
 use Rattle.rules.specs.After.{acting}
 use Rattle.rules.specs.Access.{reads_of, word_sets, word_unsets}
-use Rattle.rules.specs.declared.Verdict.TheVariants.{Done}
 use Rattle.rules.proofs.Reading.{parts_done, judged_acts}
 use Rattle.cells.specs.State.{State}
 use Rattle.step.specs.Effect.{effect_of, state_after}
 use Rattle.step.specs.Step.{state_of}
 use Rattle.cells.proofs.Sizes.{Sizes}
+use Rattle.job.specs.declared.Cause.{Cause}
 use Rattle.job.specs.Fields.{payload_at}
 use Rattle.job.proofs.Says.{WriteSays, Says}
 use Rattle.job.specs.declared.Write.{Write}
@@ -43,7 +44,7 @@ use Rattle.demand.proofs.Agreement.{Agree, by_row, alone, word_agrees}
 
 -- ---- an instruction
 
-module _ (c : Control) (m : Marks) (t w : ℕ) (h : lowest (field_rules c m (kind.Issue t w)) ≡ Done) where
+module _ (c : Control) (m : Marks) (t w : ℕ) (h : lowest (field_rules c m (Ok (kind.Issue t w))) ≡ Ok tt) where
   -- all that it reads is set
   reads_set_lem : reads_set m (reads_of c t (acting w)) ≡ true
   unfolding field_rules
@@ -85,15 +86,15 @@ module _ (c : Control) (m : Marks) (range : in_range c ≡ true) (w : Width) (d 
   write_agrees job place (ZeroRows v rows) i =
       rw i.1 (record { srca = s.srca; srcb = s.srcb; dst = overwritten w by_row dst_numbers m.dst d.dst e.dst s.dst rows _; registers = s.registers })
 
-  pub field_agrees : (job : List ℕ) (place : ℕ) (k : Kind) → Says w tag p k → (is_issue k ≡ true → width_of c.settings ≡ w) → lowest (field_rules c m k) ≡ Done
+  pub field_agrees : (job : List ℕ) (place : ℕ) (k : Result Kind Cause) → Says w tag p k → (is_issue k ≡ true → width_of c.settings ≡ w) → lowest (field_rules c m k) ≡ Ok tt
       → Agree w (field_marks c m k) (performed job c place k d) (performed job c place k e)
   unfolding field_marks performed word_sets word_unsets
-  field_agrees job place kind.Settings i q h = s
-  field_agrees job place (kind.Issue t x) i q h =
+  field_agrees job place (Ok kind.Settings) i q h = s
+  field_agrees job place (Ok (kind.Issue t x)) i q h =
       let l = ltb-true t thread_count i.0 in
       rw (state_is c m t x h range l d (left_sizes s), state_is c m t x h range l e (right_sizes s))
       (word_agrees w m d e s c t (acting x) (q refl) (reads_set_lem c m t x h))
-  field_agrees job place (kind.HandOver file) i q h = s
-  field_agrees job place (kind.Writes x) i q h = write_agrees job place x i
-  field_agrees job place (kind.Prints o) i q h = s
-  field_agrees job place (kind.Wrong x) i q h = s
+  field_agrees job place (Ok (kind.HandOver file)) i q h = s
+  field_agrees job place (Ok (kind.Writes x)) i q h = write_agrees job place x i
+  field_agrees job place (Ok (kind.Prints o)) i q h = s
+  field_agrees job place (Err x) i q h = s

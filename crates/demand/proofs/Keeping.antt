@@ -3,13 +3,13 @@
 use mathlib.Core.Path.{◌≡◌, refl, sym, ap, ◌∙◌}
 use mathlib.Core.Bool.{Bool, true, false, cond, not, ◌&&◌, false≢true}
 use mathlib.Core.List.{List, [], ◌∷◌}
-use mathlib.Core.Option.{some}
 use mathlib.Core.Logic.{◌≢◌}
 use Prim.Native.Nat.{ℕ, zero, suc, ◌+◌, ◌*◌, ◌/◌, ◌%◌, ◌^◌, ◌≤◌, ◌<◌}
 use native.Mathlib.Omega.{arith}
 use lib.Dec.{eqb, ltb}
 use lib.ListN.{length, get_or}
 use borrow.Author.Tests.{ltb-true, ltb-false}
+use Rattle.std.specs.Prelude.{Result, Ok, Err, Some, ⊤}
 use Rattle.cells.specs.declared.layout.File.{File}
 use Rattle.cells.specs.declared.layout.File.TheVariants.{A, B}
 use Rattle.cells.specs.declared.layout.Span.{Span}
@@ -22,7 +22,7 @@ use Rattle.word.specs.Table.{table}
 use Rattle.word.specs.Operands.{opcode_of, clear_of, operands_of}
 use Rattle.word.specs.declared.Class.{Class}
 use Rattle.word.specs.declared.Class.TheVariants as class
-use Rattle.word.specs.declared.Clear.{Clear}
+use Rattle.cells.specs.declared.layout.ByFile.{ByFile}
 use Rattle.word.specs.declared.Operands.{Operands}
 use Rattle.word.specs.declared.Refusal.{Refusal}
 use Rattle.word.specs.declared.Refusal.TheVariants.{BankOwner}
@@ -36,15 +36,13 @@ use Rattle.rules.specs.Vocabulary.{Sets, no_clear, no_sets}
 use Rattle.rules.specs.Instructions.{meaning_of}
 use Rattle.rules.specs.After.{acting, record_after, control_after}
 use Rattle.rules.specs.Access.{given_back, sets_of, unsets_of, word_sets, word_unsets}
-use Rattle.rules.specs.declared.Verdict.{Verdict}
-use Rattle.rules.specs.declared.Verdict.TheVariants as verdict
 use Rattle.rules.proofs.AfterKeeps.{record_after_settings, banks_after}
 use Rattle.step.specs.Effect.{effect_of, state_after}
 use Rattle.step.specs.Step.{if_done, verdict_of, stepped_of, state_of}
+use Rattle.job.specs.declared.Cause.{Cause}
 use Rattle.job.specs.Fields.{job_width, field_at, fields_from, EachField}
 use Rattle.job.specs.Settings.{settled}
 use Rattle.job.specs.Shape.{shape_of}
-use Rattle.job.specs.declared.Shape.TheVariants.{Right}
 use Rattle.job.specs.declared.Write.{Write}
 use Rattle.job.specs.declared.Write.TheVariants.{LoadSrc, LoadDst, LoadRegister, ZeroRows}
 use Rattle.job.specs.declared.Kind.{Kind}
@@ -99,7 +97,7 @@ by_class class.NoEffect w = refl
 by_class class.Scalar w = refl
 
 -- the file's bit of the field
-abbrev bit_of : File → Clear → Bool
+abbrev bit_of : File → ByFile Bool → Bool
 bit_of A x = x.a
 bit_of B x = x.b
 
@@ -182,14 +180,14 @@ bank_out p q r n h =
 -- ---- a single step
 
 module _ (f : File) (c : Control) (t w : ℕ) (s : State) where
-  step_banks : verdict_of c t w s ≡ verdict.Done → banks_left f c t w s ≡ cleared_if (banks_of c f) (bit_of f (meaning_of (acting w)).clear) (keeps f c.settings)
+  step_banks : verdict_of c t w s ≡ Ok tt → banks_left f c t w s ≡ cleared_if (banks_of c f) (bit_of f (meaning_of (acting w)).clear) (keeps f c.settings)
   unfolding stepped_of control_after
-  step_banks e = ap (λ (v : Verdict). banks_of (if_done v (control_after c t w) c) f) e ∙ banks_of_lem f c t (acting w)
+  step_banks e = ap (λ (v : Result ⊤ Refusal). banks_of (if_done v (control_after c t w) c) f) e ∙ banks_of_lem f c t (acting w)
 
-  step_refused : (r : Refusal) → verdict_of c t w s ≡ verdict.Refused r → (stepped_of c t w s).control ≡ c
+  step_refused : (r : Refusal) → verdict_of c t w s ≡ Err r → (stepped_of c t w s).control ≡ c
   step_refused = (step_demand1 c t w s).record_kept
 
-  bit_is : verdict_of c t w s ≡ verdict.Done → bit_of f (meaning_of (acting w)).clear ≡ clears f w
+  bit_is : verdict_of c t w s ≡ Ok tt → bit_of f (meaning_of (acting w)).clear ≡ clears f w
   bit_is e =
       let a = done_acts c t w s e in
       ap (λ (x : Operands). bit_of f (meaning_of x).clear) a.operands
@@ -198,11 +196,11 @@ module _ (f : File) (c : Control) (t w : ℕ) (s : State) where
       ∙ ap (λ (b : Bool). b && bit_of f (clear_of w)) (a.told clearer clearing by_row_lem)
       ∙ word_bit_lem f w
 
-  banks_done : verdict_of c t w s ≡ verdict.Done → banks_left f c t w s ≡ cleared_if (banks_of c f) (clears f w) (keeps f c.settings)
+  banks_done : verdict_of c t w s ≡ Ok tt → banks_left f c t w s ≡ cleared_if (banks_of c f) (clears f w) (keeps f c.settings)
   banks_done e = step_banks e ∙ ap (λ (b : Bool). cleared_if (banks_of c f) b (keeps f c.settings)) (bit_is e)
 
   -- one that clears
-  module _ (h : clears f w ≡ true) (e : verdict_of c t w s ≡ verdict.Done) where
+  module _ (h : clears f w ≡ true) (e : verdict_of c t w s ≡ Ok tt) where
     moved : (keep : Bool) → keeps f c.settings ≡ keep → (b : Banks) → banks_of c f ≡ b → banks_left f c t w s ≡ cleared_if b true keep
     moved keep k b eb = banks_done e ∙ (λ i. cleared_if (eb i) (h i) (k i))
 
@@ -229,7 +227,7 @@ module _ (f : File) (c : Control) (t w : ℕ) (s : State) where
     unfolding state_of state_after
     rows_left =
         let a = done_acts c t w s e in
-        ap (λ (v : Verdict). src_file (if_done v (state_after c t w s) s) f) e
+        ap (λ (v : Result ⊤ Refusal). src_file (if_done v (state_after c t w s) s) f) e
         ∙ ap (λ (x : Operands). src_file (effect_of c t x s) f) a.operands
         ∙ rows_stay a.class f c t w s is_clearer
 
@@ -252,24 +250,24 @@ module _ (f : File) (c : Control) (t w : ℕ) (s : State) where
         }
 
   -- any other leaves the banks, and all leave the settings
-  others : clears f w ≡ false → (v : Verdict) → verdict_of c t w s ≡ v → banks_left f c t w s ≡ banks_of c f
-  others h verdict.Done e = banks_done e ∙ ap (λ (b : Bool). cleared_if (banks_of c f) b (keeps f c.settings)) h
-  others h (verdict.Refused r) e = ap (λ (c : Control). banks_of c f) (step_refused r e)
+  others : clears f w ≡ false → (v : Result ⊤ Refusal) → verdict_of c t w s ≡ v → banks_left f c t w s ≡ banks_of c f
+  others h (Ok u) e = banks_done e ∙ ap (λ (b : Bool). cleared_if (banks_of c f) b (keeps f c.settings)) h
+  others h (Err r) e = ap (λ (c : Control). banks_of c f) (step_refused r e)
 
   -- where no bank is given back no row is unset
   none_unset : (bit_of f (meaning_of (acting w)).clear && not (keeps f c.settings)) ≡ false → (m : Marks) → In (src_marks m f) (marks_left f c m t w)
   none_unset n m r h =
       let l = over_span (span_of f (word_sets c t w)) true (src_marks m f) in
-      let none : marks_left f c m t w ≡ l =
+      let None : marks_left f c m t w ≡ l =
       marks_of f c m t w
       ∙ ap (λ (on : Bool). over_span (cond on (bank_span (banks_of c f).matrix) no_span) false l) n
       ∙ none_over false l in
-      ap (λ (x : List Bool). get_or x r false) none ∙ over_true _ (src_marks m f) r h
+      ap (λ (x : List Bool). get_or x r false) None ∙ over_true _ (src_marks m f) r h
 
-  settings_left : (v : Verdict) → verdict_of c t w s ≡ v → (stepped_of c t w s).control.settings ≡ c.settings
+  settings_left : (v : Result ⊤ Refusal) → verdict_of c t w s ≡ v → (stepped_of c t w s).control.settings ≡ c.settings
   unfolding stepped_of control_after
-  settings_left verdict.Done e = ap (λ (v : Verdict). (if_done v (control_after c t w) c).settings) e ∙ record_after_settings c t (acting w)
-  settings_left (verdict.Refused r) e = ap (λ (c : Control). c.settings) (step_refused r e)
+  settings_left (Ok u) e = ap (λ (v : Result ⊤ Refusal). (if_done v (control_after c t w) c).settings) e ∙ record_after_settings c t (acting w)
+  settings_left (Err r) e = ap (λ (c : Control). c.settings) (step_refused r e)
 
   pub clear_rule : (m : Marks) → ClearRule f c t w s m
   clear_rule m =
@@ -281,11 +279,11 @@ module _ (f : File) (c : Control) (t w : ℕ) (s : State) where
       }
 
   -- with the switch on, whatever the word
-  step_owned : keeps f c.settings ≡ true → (p : ℕ) → (v : Verdict) → verdict_of c t w s ≡ v → owned_at (banks_left f c t w s) p ≡ owned_at (banks_of c f) p
-  step_owned k p verdict.Done e =
+  step_owned : keeps f c.settings ≡ true → (p : ℕ) → (v : Result ⊤ Refusal) → verdict_of c t w s ≡ v → owned_at (banks_left f c t w s) p ≡ owned_at (banks_of c f) p
+  step_owned k p (Ok u) e =
       let b = bit_of f (meaning_of (acting w)).clear in
       ap (λ (x : Banks). owned_at x p) (step_banks e ∙ ap (cleared_if (banks_of c f) b) k) ∙ kept_owner (banks_of c f) b p
-  step_owned k p (verdict.Refused r) e = ap (λ (c : Control). owned_at (banks_of c f) p) (step_refused r e)
+  step_owned k p (Err r) e = ap (λ (c : Control). owned_at (banks_of c f) p) (step_refused r e)
 
   step_set : keeps f c.settings ≡ true → (m : Marks) → In (src_marks m f) (marks_left f c m t w)
   step_set k =
@@ -320,30 +318,30 @@ write_set B c m (LoadRegister t q) = λ r h. h
 write_set B c m (ZeroRows w rows) = λ r h. h
 
 module _ (f : File) (job : List ℕ) where
-  field_holds : (c : Control) (m : Marks) (s : State) (place : ℕ) (k : Kind) → (k ≡ kind.Settings → ⊥) → keeps f c.settings ≡ true
+  field_holds : (c : Control) (m : Marks) (s : State) (place : ℕ) (k : Result Kind Cause) → (k ≡ Ok kind.Settings → ⊥) → keeps f c.settings ≡ true
       → Holds f c m (control_on job c place k s) (field_marks c m k)
   unfolding control_on field_control field_marks
-  field_holds c m s place kind.Settings n k = absurd (n refl)
-  field_holds c m s place (kind.Issue t w) n k =
+  field_holds c m s place (Ok kind.Settings) n k = absurd (n refl)
+  field_holds c m s place (Ok (kind.Issue t w)) n k =
       record { owned = λ p h. step_owned f c t w s k p (verdict_of c t w s) refl ∙ h; set = step_set f c t w s k m }
-  field_holds c m s place (kind.HandOver g) n k = record { owned = hand_owned f g c; set = λ r h. h }
-  field_holds c m s place (kind.Writes x) n k = record { owned = λ p h. h; set = write_set f c m x }
-  field_holds c m s place (kind.Prints o) n k = record { owned = λ p h. h; set = λ r h. h }
-  field_holds c m s place (kind.Wrong x) n k = record { owned = λ p h. h; set = λ r h. h }
+  field_holds c m s place (Ok (kind.HandOver g)) n k = record { owned = hand_owned f g c; set = λ r h. h }
+  field_holds c m s place (Ok (kind.Writes x)) n k = record { owned = λ p h. h; set = write_set f c m x }
+  field_holds c m s place (Ok (kind.Prints o)) n k = record { owned = λ p h. h; set = λ r h. h }
+  field_holds c m s place (Err x) n k = record { owned = λ p h. h; set = λ r h. h }
 
   -- the switch stays on
-  settings_on : (c : Control) (s : State) (place : ℕ) (k : Kind) → (k ≡ kind.Settings → ⊥) → (control_on job c place k s).settings ≡ c.settings
+  settings_on : (c : Control) (s : State) (place : ℕ) (k : Result Kind Cause) → (k ≡ Ok kind.Settings → ⊥) → (control_on job c place k s).settings ≡ c.settings
   unfolding control_on
-  settings_on c s place kind.Settings n = absurd (n refl)
-  settings_on c s place (kind.Issue t w) n = settings_left f c t w s (verdict_of c t w s) refl
-  settings_on c s place (kind.HandOver g) n = settings_stay job c place (kind.HandOver g) n
-  settings_on c s place (kind.Writes x) n = settings_stay job c place (kind.Writes x) n
-  settings_on c s place (kind.Prints o) n = settings_stay job c place (kind.Prints o) n
-  settings_on c s place (kind.Wrong x) n = settings_stay job c place (kind.Wrong x) n
+  settings_on c s place (Ok kind.Settings) n = absurd (n refl)
+  settings_on c s place (Ok (kind.Issue t w)) n = settings_left f c t w s (verdict_of c t w s) refl
+  settings_on c s place (Ok (kind.HandOver g)) n = settings_stay job c place (Ok (kind.HandOver g)) n
+  settings_on c s place (Ok (kind.Writes x)) n = settings_stay job c place (Ok (kind.Writes x)) n
+  settings_on c s place (Ok (kind.Prints o)) n = settings_stay job c place (Ok (kind.Prints o)) n
+  settings_on c s place (Err x) n = settings_stay job c place (Err x) n
 
   -- ---- the fields after the settings
 
-  later : (fs : List Field) (c : Control) (m : Marks) (s : State) (j : ℕ) (y : Meeting) → EachField NotSettings fs → meeting_at job fs c m s j ≡ some y
+  later : (fs : List Field) (c : Control) (m : Marks) (s : State) (j : ℕ) (y : Meeting) → EachField NotSettings fs → meeting_at job fs c m s j ≡ Some y
       → keeps f c.settings ≡ true → Holds f c m y.control y.marks
   unfolding meeting_at
   later [] c m s j y o e k = absurd (let z : ◌≡◌ {A = ℕ} 0 1 = cc in omega arith)
@@ -356,7 +354,7 @@ module _ (f : File) (job : List ℕ) where
       record { owned = λ p h. b.owned p (a.owned p h); set = λ r h. b.set r (a.set r h) }
 
   -- each meets the settings of the first
-  settings_met : (fs : List Field) (c : Control) (m : Marks) (s : State) (k : ℕ) (x : Meeting) → EachField NotSettings fs → meeting_at job fs c m s k ≡ some x
+  settings_met : (fs : List Field) (c : Control) (m : Marks) (s : State) (k : ℕ) (x : Meeting) → EachField NotSettings fs → meeting_at job fs c m s k ≡ Some x
       → x.control.settings ≡ c.settings
   unfolding meeting_at
   settings_met [] c m s k x o e = absurd (let z : ◌≡◌ {A = ℕ} 0 1 = cc in omega arith)
@@ -366,7 +364,7 @@ module _ (f : File) (job : List ℕ) where
   settings_met (g ∷ fs) c m s (suc k) x o e = settings_met fs _ _ _ k x o.1 e ∙ settings_on c s g.place g.kind o.0
 
   from : (fs : List Field) (c : Control) (m : Marks) (s : State) (i j : ℕ) (x y : Meeting) → EachField NotSettings fs → i ≤ j
-      → meeting_at job fs c m s i ≡ some x → meeting_at job fs c m s j ≡ some y → keeps f x.control.settings ≡ true → Holds f x.control x.marks y.control y.marks
+      → meeting_at job fs c m s i ≡ Some x → meeting_at job fs c m s j ≡ Some y → keeps f x.control.settings ≡ true → Holds f x.control x.marks y.control y.marks
   unfolding meeting_at
   from [] c m s i j x y o l e d k = absurd (let z : ◌≡◌ {A = ℕ} 0 1 = cc in omega arith)
   from (g ∷ fs) c m s zero j x y o l e d k =
@@ -391,7 +389,7 @@ flag_on B c p e = ap (λ (n : ℕ). eqb (n / 2 ^ 4 % 2) 1) e
 module _ (job : List ℕ) (s : State) (f : File) where
   -- the first field is the settings, which meets the switch off
   past_first : (g : Field) (fs : List Field) (m : Marks) → EachField NotSettings fs → (i j : ℕ) (x y : Meeting) → i ≤ j
-      → meeting_at job (g ∷ fs) start m s i ≡ some x → meeting_at job (g ∷ fs) start m s j ≡ some y → keeps f x.control.settings ≡ true
+      → meeting_at job (g ∷ fs) start m s i ≡ Some x → meeting_at job (g ∷ fs) start m s j ≡ Some y → keeps f x.control.settings ≡ true
       → Holds f x.control x.marks y.control y.marks
   unfolding meeting_at
   past_first g fs m o zero j x y l e d k =
@@ -400,21 +398,21 @@ module _ (job : List ℕ) (s : State) (f : File) where
   past_first g fs m o (suc i) zero x y l e d k = absurd (omega (arith, l))
   past_first g fs m o (suc i) (suc j) x y l e d k = from f job fs _ _ _ i j x y o (omega (arith, l)) e d k
 
-  opened : (r : shape_of job ≡ Right) (i : ℕ)
+  opened : (r : shape_of job ≡ Ok tt) (i : ℕ)
       → meeting_at job (field_at job 0 ∷ fields_from job (field_at job 0).next) start (unset (job_width job)) s i ≡ meeting job s i
   opened r i = ap (λ (fs : List Field). meeting_at job fs start (unset (job_width job)) s i) (sym (opening job r))
 
   after_first : (g : Field) (fs : List Field) (m : Marks) → EachField NotSettings fs → (k : ℕ) (x : Meeting)
-      → meeting_at job (g ∷ fs) start m s (suc k) ≡ some x → x.control.settings ≡ (control_on job start g.place g.kind s).settings
+      → meeting_at job (g ∷ fs) start m s (suc k) ≡ Some x → x.control.settings ≡ (control_on job start g.place g.kind s).settings
   unfolding meeting_at
   after_first g fs m o k x e = settings_met f job fs _ _ _ k x o e
 
   -- the record that the settings make, in a run as before it
-  made : (g : Field) → g.kind ≡ kind.Settings → control_on job start g.place g.kind s ≡ field_control job start g.place g.kind
+  made : (g : Field) → g.kind ≡ Ok kind.Settings → control_on job start g.place g.kind s ≡ field_control job start g.place g.kind
   unfolding control_on
   made g e = rw e
 
-  switched : WellShaped job → (k : ℕ) (x : Meeting) → meeting job s (suc k) ≡ some x → keeps f x.control.settings ≡ switched_on f job
+  switched : WellShaped job → (k : ℕ) (x : Meeting) → meeting job s (suc k) ≡ Some x → keeps f x.control.settings ≡ switched_on f job
   switched w k x e =
       let r = well_right job w in
       ap (keeps f) (after_first _ _ (unset (job_width job)) (settled_once job r) k x (opened r (suc k) ∙ e))
@@ -428,10 +426,10 @@ module _ (job : List ℕ) (s : State) (f : File) where
       (opened r z.one ∙ z.first) (opened r z.other ∙ z.then) z.keeping
 
   -- rule 6 of a field that fills the bank at the unpackers' pointer
-  breaks_six : (c : Control) (m : Marks) (k : Kind) → Fills f k → matrix_owns_next (banks_of c f) ≡ true → broken_rule BankOwner (field_rules c m k) ≡ true
+  breaks_six : (c : Control) (m : Marks) (k : Result Kind Cause) → Fills f k → matrix_owns_next (banks_of c f) ≡ true → broken_rule BankOwner (field_rules c m k) ≡ true
   unfolding broken_rule field_rules
-  breaks_six c m k (load rows e) h = ap (λ (x : Kind). broken_rule BankOwner (field_rules c m x)) e ∙ rw h
-  breaks_six c m k (hand_over e) h = ap (λ (x : Kind). broken_rule BankOwner (field_rules c m x)) e ∙ rw h
+  breaks_six c m k (load rows e) h = ap (λ (x : Result Kind Cause). broken_rule BankOwner (field_rules c m x)) e ∙ rw h
+  breaks_six c m k (hand_over e) h = ap (λ (x : Result Kind Cause). broken_rule BankOwner (field_rules c m x)) e ∙ rw h
 
   pub kept_along : KeptAlong job s f
   kept_along =

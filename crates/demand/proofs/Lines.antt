@@ -6,6 +6,7 @@ use Prim.Native.Nat.{ℕ, zero, suc, ◌+◌, ◌≤◌, ◌<◌}
 use native.Mathlib.Omega.{arith}
 use borrow.Author.Tests.{not-false}
 use lib.ListN.{get_or}
+use Rattle.std.specs.Prelude.{Result, Ok, Err}
 use Rattle.cells.specs.declared.Width.{Width}
 use Rattle.cells.proofs.Cells.{between_in}
 use Rattle.cells.proofs.Same.{Same, number_same}
@@ -13,8 +14,8 @@ use Rattle.word.specs.declared.Refusal.TheVariants.{UnsetRead}
 use Rattle.control.specs.declared.Control.{Control}
 use Rattle.cells.specs.Layout.{dst_numbers, register_count, register, one_register}
 use Rattle.rules.specs.Rules.{lowest}
-use Rattle.rules.specs.declared.Verdict.TheVariants.{Done}
 use Rattle.cells.specs.State.{State}
+use Rattle.job.specs.declared.Cause.{Cause}
 use Rattle.job.specs.declared.Output.{Output}
 use Rattle.job.specs.declared.Output.TheVariants.{Rows, Register}
 use Rattle.job.specs.declared.Kind.{Kind}
@@ -42,7 +43,7 @@ module _ (w : Width) (n : ℕ) (m : List Bool) (d e : List ℕ) (s : Same w by_r
       ∷ rows_same (suc first) count (λ r a b. h r (omega arith) (omega arith)) i
 
 -- an output that breaks no rule under the marks m prints the same under any marks n that m stays in
-output_same : (w : Width) (tag : ℕ) (p : List ℕ) (m n : Marks) (o : Output) (d e : State) → OutputSays w tag p o → lowest (output_rules m o) ≡ Done → Stays m n → Agree w n d e
+output_same : (w : Width) (tag : ℕ) (p : List ℕ) (m n : Marks) (o : Output) (d e : State) → OutputSays w tag p o → lowest (output_rules m o) ≡ Ok tt → Stays m n → Agree w n d e
     → output_lines o d ≡ output_lines o e
 unfolding output_lines
 output_same w tag p m n (Rows v rows) d e i h z s =
@@ -54,12 +55,12 @@ output_same w tag p m n (Register t r) d e i h z s =
     let set = not-false _ (alone_done UnsetRead (not (all_set m.registers (one_register t r))) h) in
     λ j. value t r (number_same alone register_count n.registers d.registers e.registers s.registers (register t r) (z.registers (register t r) (one_set m.registers (register t r) set)) j) ∷ []
 
-pub lines_same : (w : Width) (tag : ℕ) (p : List ℕ) (c : Control) (m n : Marks) (k : Kind) (d e : State) → Says w tag p k → lowest (field_rules c m k) ≡ Done → Stays m n → Agree w n d e
+pub lines_same : (w : Width) (tag : ℕ) (p : List ℕ) (c : Control) (m n : Marks) (k : Result Kind Cause) (d e : State) → Says w tag p k → lowest (field_rules c m k) ≡ Ok tt → Stays m n → Agree w n d e
     → field_lines k d ≡ field_lines k e
 unfolding field_lines field_rules
-lines_same w tag p c m n kind.Settings d e i h z s = refl
-lines_same w tag p c m n (kind.Issue t x) d e i h z s = refl
-lines_same w tag p c m n (kind.HandOver file) d e i h z s = refl
-lines_same w tag p c m n (kind.Writes x) d e i h z s = refl
-lines_same w tag p c m n (kind.Prints o) d e i h z s = output_same w tag p m n o d e i h z s
-lines_same w tag p c m n (kind.Wrong x) d e i h z s = refl
+lines_same w tag p c m n (Ok kind.Settings) d e i h z s = refl
+lines_same w tag p c m n (Ok (kind.Issue t x)) d e i h z s = refl
+lines_same w tag p c m n (Ok (kind.HandOver file)) d e i h z s = refl
+lines_same w tag p c m n (Ok (kind.Writes x)) d e i h z s = refl
+lines_same w tag p c m n (Ok (kind.Prints o)) d e i h z s = output_same w tag p m n o d e i h z s
+lines_same w tag p c m n (Err x) d e i h z s = refl

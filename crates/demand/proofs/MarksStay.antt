@@ -4,11 +4,13 @@ use mathlib.Core.Bool.{Bool, true, false}
 use mathlib.Core.List.{List}
 use Prim.Native.Nat.{ℕ}
 use lib.ListN.{get_or}
+use Rattle.std.specs.Prelude.{Result, Ok, Err}
 use Rattle.cells.specs.Cells.{in_span}
 use Rattle.cells.proofs.Cells.{over_true}
 use Rattle.cells.specs.declared.layout.File.TheVariants.{A, B}
 use Rattle.control.specs.declared.Control.{Control}
 use Rattle.rules.specs.Access.{word_sets}
+use Rattle.job.specs.declared.Cause.{Cause}
 use Rattle.job.specs.declared.Write.{Write}
 use Rattle.job.specs.declared.Write.TheVariants.{LoadSrc, LoadDst, LoadRegister, ZeroRows}
 use Rattle.job.specs.declared.Kind.{Kind}
@@ -39,11 +41,11 @@ write_stays c m (LoadDst w rows) = record { dst = over_true (in_span rows) m.dst
 write_stays c m (LoadRegister t r) = record { dst = λ r t. t; registers = over_true _ m.registers }
 write_stays c m (ZeroRows w rows) = record { dst = over_true (in_span rows) m.dst; registers = λ r t. t }
 
-pub marks_stay : (c : Control) (m : Marks) (k : Kind) → Stays m (field_marks c m k)
+pub marks_stay : (c : Control) (m : Marks) (k : Result Kind Cause) → Stays m (field_marks c m k)
 unfolding field_marks instruction_marks
-marks_stay c m kind.Settings = stays m
-marks_stay c m (kind.Issue t w) = record { dst = λ r t. t; registers = over_true (in_span (word_sets c t w).registers) m.registers }
-marks_stay c m (kind.HandOver file) = stays m
-marks_stay c m (kind.Writes x) = write_stays c m x
-marks_stay c m (kind.Prints o) = stays m
-marks_stay c m (kind.Wrong x) = stays m
+marks_stay c m (Ok kind.Settings) = stays m
+marks_stay c m (Ok (kind.Issue t w)) = record { dst = λ r t. t; registers = over_true (in_span (word_sets c t w).registers) m.registers }
+marks_stay c m (Ok (kind.HandOver file)) = stays m
+marks_stay c m (Ok (kind.Writes x)) = write_stays c m x
+marks_stay c m (Ok (kind.Prints o)) = stays m
+marks_stay c m (Err x) = stays m

@@ -7,6 +7,7 @@ use Prim.Native.Nat.{ℕ, zero, suc}
 use native.Mathlib.Omega.{arith}
 use borrow.Author.Tests.{eqb-true, not-true}
 use lib.Dec.{eqb}
+use Rattle.std.specs.Prelude.{Result, Ok, Err}
 use Rattle.cells.specs.declared.Width.TheVariants.{Bits32, Bits16}
 use Rattle.cells.specs.Places.{row_count}
 use Rattle.cells.proofs.Cells.{split, both, both_off}
@@ -22,6 +23,7 @@ use Rattle.rules.specs.Multiply.{fp32_mode}
 use Rattle.rules.specs.Rules.{Judged, rules, unmodelled, operand_rules as word_rules}
 use Rattle.rules.proofs.Places.{row_never_wrong}
 use Rattle.rules.proofs.Classes.{multiply_alone}
+use Rattle.job.specs.declared.Cause.{Cause}
 use Rattle.job.specs.Fields.{job_width}
 use Rattle.job.specs.declared.Write.{Write}
 use Rattle.job.specs.declared.Write.TheVariants.{LoadSrc, LoadDst, LoadRegister, ZeroRows}
@@ -130,14 +132,14 @@ unfolding broken_rule
 output_right m (Rows w rows) = refl
 output_right m (Register t r) = refl
 
-field_right : (c : Control) (m : Marks) (k : Kind) → (is_issue k ≡ true → width_of c.settings ≡ Bits16) → broken_rule DstRow (field_rules c m k) ≡ false
+field_right : (c : Control) (m : Marks) (k : Result Kind Cause) → (is_issue k ≡ true → width_of c.settings ≡ Bits16) → broken_rule DstRow (field_rules c m k) ≡ false
 unfolding broken_rule field_rules rules word_rules
-field_right c m kind.Settings q = refl
-field_right c m (kind.Issue t w) q = ap (λ (b : Bool). b || false) (row_never_wrong c t (word_operands w) (q refl))
-field_right c m (kind.HandOver file) q = refl
-field_right c m (kind.Writes x) q = write_right c x
-field_right c m (kind.Prints o) q = output_right m o
-field_right c m (kind.Wrong x) q = refl
+field_right c m (Ok kind.Settings) q = refl
+field_right c m (Ok (kind.Issue t w)) q = ap (λ (b : Bool). b || false) (row_never_wrong c t (word_operands w) (q refl))
+field_right c m (Ok (kind.HandOver file)) q = refl
+field_right c m (Ok (kind.Writes x)) q = write_right c x
+field_right c m (Ok (kind.Prints o)) q = output_right m o
+field_right c m (Err x) q = refl
 
 -- and of all fields, where each issue field meets the job's width
 pub none_breaks_seven : (job : List ℕ) → job_width job ≡ Bits16 → (fs : List Field) (c : Control) (m : Marks) → Wide job c fs → (k : ℕ) → breaks job c m fs k DstRow ≡ false

@@ -12,7 +12,7 @@ use Rattle.cells.proofs.Tests.{each_of, all_of, below_of, of_below}
 use Rattle.control.specs.Record.{start_thread, zero_slot}
 use Rattle.control.specs.Range.{src_tests, src_ok, dst_tests, slot_tests, slot_ok, slots_ok, thread_tests, thread_ok, threads_ok, banks_tests, banks_ok, settings_tests, last_ok, range_tests, in_range}
 use Rattle.control.specs.declared.Slot.{Slot}
-use Rattle.control.specs.declared.Src.{Src}
+use Rattle.control.specs.Counter.{Src}
 use Rattle.control.specs.declared.Banks.{Banks}
 use Rattle.control.specs.declared.Thread.{Thread}
 use Rattle.control.specs.declared.Control.{Control}

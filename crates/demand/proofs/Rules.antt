@@ -6,6 +6,7 @@ use Prim.Native.Nat.{ℕ, suc, ◌≤◌, ◌<◌}
 use native.Mathlib.Omega.{arith}
 use borrow.Author.Tests.{leb-true, ne_eqb, eq-eqb}
 use lib.Dec.{leb, eqb}
+use Rattle.std.specs.Prelude.{Result, Ok, Err}
 use Rattle.cells.proofs.Cells.{split, both}
 use Rattle.cells.specs.Tests.{one_of}
 use Rattle.word.specs.Refusal.{number_of, rank_of}
@@ -13,8 +14,8 @@ use Rattle.word.specs.declared.Refusal.{Refusal}
 use Rattle.word.specs.declared.Refusal.TheVariants.{StateLength, Shape, UnknownOpcode, UnnamedBit, UndefinedMode, UnmodelledSettings, BankOwner, DstRow, UnsetRead}
 use Rattle.control.specs.declared.Control.{Control}
 use Rattle.rules.specs.Rules.{Judged, ◌when◌, rules, lowest, operand_rules as word_rules}
-use Rattle.rules.specs.declared.Verdict.TheVariants.{Done, Refused}
 use Rattle.rules.proofs.Reading.{never}
+use Rattle.job.specs.declared.Cause.{Cause}
 use Rattle.job.specs.declared.Write.{Write}
 use Rattle.job.specs.declared.Write.TheVariants.{LoadSrc, LoadDst, LoadRegister, ZeroRows}
 use Rattle.job.specs.declared.Output.{Output}
@@ -28,7 +29,7 @@ use Rattle.demand.specs.Demand.{field_numbers, Ranks}
 
 -- ---- no rule is broken
 
-pub none_broken : (bs : List Judged) → lowest bs ≡ Done → (q : Refusal) → broken_rule q bs ≡ false
+pub none_broken : (bs : List Judged) → lowest bs ≡ Ok tt → (q : Refusal) → broken_rule q bs ≡ false
 unfolding lowest broken_rule
 none_broken [] e q = refl
 none_broken (b ∷ bs) e q =
@@ -36,7 +37,7 @@ none_broken (b ∷ bs) e q =
     (λ h. rw (h, and-false (eqb (number_of b.rule) (number_of q))) (none_broken bs (rw h at e) q))
 
 -- then a rule that stands alone does not hold
-pub alone_done : (r : Refusal) (b : Bool) → lowest ((r when b) ∷ []) ≡ Done → b ≡ false
+pub alone_done : (r : Refusal) (b : Bool) → lowest ((r when b) ∷ []) ≡ Ok tt → b ≡ false
 unfolding lowest
 alone_done r true e = absurd (never e)
 alone_done r false e = refl
@@ -96,14 +97,14 @@ pub record Lowest (bs : List Judged) (r : Refusal) : Type 0 where
   pub broken : broken_rule r bs ≡ true
   pub lower : (q : Refusal) → rank_of q < rank_of r → broken_rule q bs ≡ false
 
-pub lowest_is : (k : ℕ) (bs : List Judged) (r : Refusal) → rising k bs ≡ true → lowest bs ≡ Refused r → Lowest bs r
+pub lowest_is : (k : ℕ) (bs : List Judged) (r : Refusal) → rising k bs ≡ true → lowest bs ≡ Err r → Lowest bs r
 unfolding lowest broken_rule
 lowest_is k [] r h e = absurd (never (sym e))
 lowest_is k (b ∷ bs) r h e =
     let up = rise k b bs h in
     split b.broken
     (λ t.
-    let q : Refused b.rule ≡ Refused r = rw t at e in
+    let q : Err b.rule ≡ Err r = rw t at e in
     let s : b.rule ≡ r = cc in
     let n = number_of r in
     record {
@@ -125,14 +126,14 @@ numbered l [] = true
 numbered l (b ∷ bs) = one_of (number_of b.rule) l && numbered l bs
 
 -- so the one that counts has
-pub lowest_numbered : (l : List ℕ) (bs : List Judged) (r : Refusal) → numbered l bs ≡ true → lowest bs ≡ Refused r → one_of (number_of r) l ≡ true
+pub lowest_numbered : (l : List ℕ) (bs : List Judged) (r : Refusal) → numbered l bs ≡ true → lowest bs ≡ Err r → one_of (number_of r) l ≡ true
 unfolding lowest
 lowest_numbered l [] r h e = absurd (never (sym e))
 lowest_numbered l (b ∷ bs) r h e =
     let p = both (one_of (number_of b.rule) l) (numbered l bs) h in
     split b.broken
     (λ t.
-    let q : Refused b.rule ≡ Refused r = rw t at e in
+    let q : Err b.rule ≡ Err r = rw t at e in
     let s : b.rule ≡ r = cc in
     rw (← s) p.0)
     (λ t. lowest_numbered l bs r p.1 (rw t at e))
@@ -152,14 +153,14 @@ module _ (c : Control) (m : Marks) where
   output_rise (Rows w rows) = refl
   output_rise (Register t r) = refl
 
-  pub rules_rise : (k : Kind) → rising 0 (field_rules c m k) ≡ true
+  pub rules_rise : (k : Result Kind Cause) → rising 0 (field_rules c m k) ≡ true
   unfolding rising field_rules rules word_rules
-  rules_rise kind.Settings = refl
-  rules_rise (kind.Issue t w) = refl
-  rules_rise (kind.HandOver file) = refl
-  rules_rise (kind.Writes x) = write_rise x
-  rules_rise (kind.Prints o) = output_rise o
-  rules_rise (kind.Wrong x) = refl
+  rules_rise (Ok kind.Settings) = refl
+  rules_rise (Ok (kind.Issue t w)) = refl
+  rules_rise (Ok (kind.HandOver file)) = refl
+  rules_rise (Ok (kind.Writes x)) = write_rise x
+  rules_rise (Ok (kind.Prints o)) = output_rise o
+  rules_rise (Err x) = refl
 
   write_numbered : (x : Write) → numbered field_numbers (write_rules c x) ≡ true
   write_numbered (LoadSrc file rows) = refl
@@ -171,11 +172,11 @@ module _ (c : Control) (m : Marks) where
   output_numbered (Rows w rows) = refl
   output_numbered (Register t r) = refl
 
-  pub rules_numbered : (k : Kind) → numbered field_numbers (field_rules c m k) ≡ true
+  pub rules_numbered : (k : Result Kind Cause) → numbered field_numbers (field_rules c m k) ≡ true
   unfolding field_rules rules word_rules
-  rules_numbered kind.Settings = refl
-  rules_numbered (kind.Issue t w) = refl
-  rules_numbered (kind.HandOver file) = refl
-  rules_numbered (kind.Writes x) = write_numbered x
-  rules_numbered (kind.Prints o) = output_numbered o
-  rules_numbered (kind.Wrong x) = refl
+  rules_numbered (Ok kind.Settings) = refl
+  rules_numbered (Ok (kind.Issue t w)) = refl
+  rules_numbered (Ok (kind.HandOver file)) = refl
+  rules_numbered (Ok (kind.Writes x)) = write_numbered x
+  rules_numbered (Ok (kind.Prints o)) = output_numbered o
+  rules_numbered (Err x) = refl

@@ -8,25 +8,23 @@ use borrow.Author.Tests.{leb-true, leb-false, le-leb, lt-leb}
 use lib.Dec.{leb}
 use lib.ListN.{length, drop, length-append}
 use lib.Seq.{append_snoc, drop-append_seam}
+use Rattle.std.specs.Prelude.{Result, Ok, Err, ⊤}
 use Rattle.cells.specs.Layout.{job_bytes}
 use Rattle.cells.specs.declared.Width.{Width}
 use Rattle.cells.proofs.Cells.{split}
 use Rattle.job.specs.Fields.{end_at, job_width, whole_field, field_at, fields_from}
 use Rattle.job.specs.Kinds.{read_kind}
-use Rattle.job.specs.Shape.{placed, shape_at_end, shape_from, shape_of}
+use Rattle.job.specs.Shape.{placed, wrong_at, shape_at_end, shape_from, shape_of}
 use Rattle.job.specs.declared.Cause.{Cause}
 use Rattle.job.specs.declared.Cause.TheVariants.{CutOff}
 use Rattle.job.specs.declared.Kind.{Kind}
 use Rattle.job.specs.declared.Kind.TheVariants as kind
 use Rattle.job.specs.declared.Field.{Field}
-use Rattle.job.specs.declared.Shape.{Shape}
-use Rattle.job.specs.declared.Shape.TheVariants.{Right, WrongAt}
+use Rattle.job.specs.declared.WrongAt.{WrongAt}
 use Rattle.job.specs.declared.stages.Stage.{Stage}
 use Rattle.job.specs.declared.stages.Stage.TheVariants as stage
-use Rattle.job.specs.declared.stages.Placed.{Placed}
-use Rattle.job.specs.declared.stages.Placed.TheVariants as placed
 use Rattle.job.proofs.Walk.{place_at, fields_end, fields_step}
-use Rattle.job.proofs.Shaped.{shape_on, shape_wrong, shape_end}
+use Rattle.job.proofs.Shaped.{shape_on, shape_wrong, shape_end, same_place}
 use Rattle.demand.specs.WellShaped as shape
 use Rattle.demand.specs.WellShaped.{FieldBytes, bytes_of, joined, Settles, Prints, Acts, EachOf, WellShaped, InPlace, AllInPlace, FirstWrong}
 use Rattle.demand.proofs.Cutting.{field_here, here, cut}
@@ -72,29 +70,29 @@ At w before stage.Opening = before ≡ []
 At w before stage.Acting = (1 ≤ length before) × EachOf (Silent w) before
 At w before stage.Printing = (1 ≤ length before) × (EachOf (Silent w) before → ⊥)
 
-never_both : (k : Kind) → Acting k → Printing k → ⊥
-never_both kind.Settings a b = b
-never_both (kind.Issue t w) a b = b
-never_both (kind.HandOver file) a b = b
-never_both (kind.Writes x) a b = b
-never_both (kind.Prints o) a b = a
-never_both (kind.Wrong c) a b = b
+never_both : (k : Result Kind Cause) → Acting k → Printing k → ⊥
+never_both (Ok kind.Settings) a b = b
+never_both (Ok (kind.Issue t w)) a b = b
+never_both (Ok (kind.HandOver file)) a b = b
+never_both (Ok (kind.Writes x)) a b = b
+never_both (Ok (kind.Prints o)) a b = a
+never_both (Err c) a b = b
 
-acting_in : (k : Kind) → Acting k → placed stage.Acting k ≡ placed.InPlace stage.Acting
-acting_in kind.Settings a = absurd a
-acting_in (kind.Issue t w) a = refl
-acting_in (kind.HandOver file) a = refl
-acting_in (kind.Writes x) a = refl
-acting_in (kind.Prints o) a = absurd a
-acting_in (kind.Wrong c) a = absurd a
+acting_in : (k : Result Kind Cause) → Acting k → placed stage.Acting k ≡ Ok stage.Acting
+acting_in (Ok kind.Settings) a = absurd a
+acting_in (Ok (kind.Issue t w)) a = refl
+acting_in (Ok (kind.HandOver file)) a = refl
+acting_in (Ok (kind.Writes x)) a = refl
+acting_in (Ok (kind.Prints o)) a = absurd a
+acting_in (Err c) a = absurd a
 
-printing_in : (k : Kind) → Printing k → (placed stage.Acting k ≡ placed.InPlace stage.Printing) × (placed stage.Printing k ≡ placed.InPlace stage.Printing)
-printing_in kind.Settings a = absurd a
-printing_in (kind.Issue t w) a = absurd a
-printing_in (kind.HandOver file) a = absurd a
-printing_in (kind.Writes x) a = absurd a
-printing_in (kind.Prints o) a = (refl, refl)
-printing_in (kind.Wrong c) a = absurd a
+printing_in : (k : Result Kind Cause) → Printing k → (placed stage.Acting k ≡ Ok stage.Printing) × (placed stage.Printing k ≡ Ok stage.Printing)
+printing_in (Ok kind.Settings) a = absurd a
+printing_in (Ok (kind.Issue t w)) a = absurd a
+printing_in (Ok (kind.HandOver file)) a = absurd a
+printing_in (Ok (kind.Writes x)) a = absurd a
+printing_in (Ok (kind.Prints o)) a = (refl, refl)
+printing_in (Err c) a = absurd a
 
 -- the two ways to hold a field against those before it: by its place among them, and by the stage
 module _ (w : Width) (before : List FieldBytes) (f : FieldBytes) where
@@ -109,7 +107,7 @@ module _ (w : Width) (before : List FieldBytes) (f : FieldBytes) where
 
   record Onto (s : Stage) : Type 0 where
     next : Stage
-    here : placed s (found w f) ≡ placed.InPlace next
+    here : placed s (found w f) ≡ Ok next
     at : At w (before ++ f ∷ []) next
 
   on : (s : Stage) → At w before s → InPlace w before f → Onto s
@@ -127,37 +125,37 @@ module _ (w : Width) (before : List FieldBytes) (f : FieldBytes) where
   on stage.Printing a (shape.printing l h) =
       record { next = stage.Printing; here = (printing_in (found w f) (prints_kind w f h)).1; at = (some_snoc before f, λ n. a.1 (each_front (Silent w) before (f ∷ []) n)) }
 
-  back : (s next : Stage) → At w before s → placed s (found w f) ≡ placed.InPlace next → InPlace w before f
+  back : (s next : Stage) → At w before s → placed s (found w f) ≡ Ok next → InPlace w before f
   back stage.Opening next a e = go (found w f) refl e
     where
-      go : (k : Kind) → found w f ≡ k → placed stage.Opening k ≡ placed.InPlace next → InPlace w before f
-      go kind.Settings q e = shape.first a (kind_settles w f q)
-      go (kind.Issue t x) q e = differ (cc)
-      go (kind.HandOver file) q e = differ (cc)
-      go (kind.Writes x) q e = differ (cc)
-      go (kind.Prints o) q e = differ (cc)
-      go (kind.Wrong c) q e = differ (cc)
+      go : (k : Result Kind Cause) → found w f ≡ k → placed stage.Opening k ≡ Ok next → InPlace w before f
+      go (Ok kind.Settings) q e = shape.first a (kind_settles w f q)
+      go (Ok (kind.Issue t x)) q e = differ (cc)
+      go (Ok (kind.HandOver file)) q e = differ (cc)
+      go (Ok (kind.Writes x)) q e = differ (cc)
+      go (Ok (kind.Prints o)) q e = differ (cc)
+      go (Err c) q e = differ (cc)
   back stage.Acting next a e = go (found w f) refl e
     where
       acts : Acting (found w f) → InPlace w before f
       acts h = shape.acting a.0 a.1 (kind_acts w f h)
 
-      go : (k : Kind) → found w f ≡ k → placed stage.Acting k ≡ placed.InPlace next → InPlace w before f
-      go kind.Settings q e = differ (cc)
-      go (kind.Issue t x) q e = acts (rw q tt)
-      go (kind.HandOver file) q e = acts (rw q tt)
-      go (kind.Writes x) q e = acts (rw q tt)
-      go (kind.Prints o) q e = shape.printing a.0 (kind_prints w f (rw q tt))
-      go (kind.Wrong c) q e = differ (cc)
+      go : (k : Result Kind Cause) → found w f ≡ k → placed stage.Acting k ≡ Ok next → InPlace w before f
+      go (Ok kind.Settings) q e = differ (cc)
+      go (Ok (kind.Issue t x)) q e = acts (rw q tt)
+      go (Ok (kind.HandOver file)) q e = acts (rw q tt)
+      go (Ok (kind.Writes x)) q e = acts (rw q tt)
+      go (Ok (kind.Prints o)) q e = shape.printing a.0 (kind_prints w f (rw q tt))
+      go (Err c) q e = differ (cc)
   back stage.Printing next a e = go (found w f) refl e
     where
-      go : (k : Kind) → found w f ≡ k → placed stage.Printing k ≡ placed.InPlace next → InPlace w before f
-      go kind.Settings q e = differ (cc)
-      go (kind.Issue t x) q e = differ (cc)
-      go (kind.HandOver file) q e = differ (cc)
-      go (kind.Writes x) q e = differ (cc)
-      go (kind.Prints o) q e = shape.printing a.0 (kind_prints w f (rw q tt))
-      go (kind.Wrong c) q e = differ (cc)
+      go : (k : Result Kind Cause) → found w f ≡ k → placed stage.Printing k ≡ Ok next → InPlace w before f
+      go (Ok kind.Settings) q e = differ (cc)
+      go (Ok (kind.Issue t x)) q e = differ (cc)
+      go (Ok (kind.HandOver file)) q e = differ (cc)
+      go (Ok (kind.Writes x)) q e = differ (cc)
+      go (Ok (kind.Prints o)) q e = shape.printing a.0 (kind_prints w f (rw q tt))
+      go (Err c) q e = differ (cc)
 
 -- ---- fields in place are settings, fields that act, outputs
 
@@ -225,7 +223,7 @@ module _ (job : List ℕ) where
   abbrev pub from : List FieldBytes → ℕ
   from before = length (joined before)
 
-  abbrev onward : List FieldBytes → Stage → Shape
+  abbrev onward : List FieldBytes → Stage → Result ⊤ WrongAt
   onward before s = shape_from (length job) (fields_from job (from before)) s
 
   module _ (before : List FieldBytes) (f : FieldBytes) (rest : List ℕ) (e : job ≡ joined before ++ (bytes_of f ++ rest)) where
@@ -239,7 +237,7 @@ module _ (job : List ℕ) where
     pub inside : from before < length job
     inside = let z = ap length e ∙ length-append (joined before) (bytes_of f ++ rest) in omega (arith, z)
 
-    turn : (s next : Stage) → placed s (found w f) ≡ placed.InPlace next → onward before s ≡ onward (before ++ f ∷ []) next
+    turn : (s next : Stage) → placed s (found w f) ≡ Ok next → onward before s ≡ onward (before ++ f ∷ []) next
     turn s next p =
         ap (λ (fs : List Field). shape_from (length job) fs s)
         (fields_step job (from before) inside ∙ ap (λ (g : Field). g ∷ fields_from job g.next) field_after)
@@ -286,7 +284,7 @@ module _ (job : List ℕ) where
 
   -- ---- what is said of the bytes, and so found
 
-  pub well_right : WellShaped job → shape_of job ≡ Right
+  pub well_right : WellShaped job → shape_of job ≡ Ok tt
   well_right h =
       let fs = h.settings ∷ h.acting ++ h.outputs in
       let silent : EachOf (Silent w) (h.settings ∷ []) = (settles_silent w [] h.settings h.settles, tt) in
@@ -298,7 +296,7 @@ module _ (job : List ℕ) where
       loud [] some p q = absurd (omega arith)
       loud (f ∷ l) some p q = q.0 p.0
 
-      go : (s : Stage) → At w (h.settings ∷ h.acting ++ h.outputs) s → shape_at_end (length job) s ≡ Right
+      go : (s : Stage) → At w (h.settings ∷ h.acting ++ h.outputs) s → shape_at_end (length job) s ≡ Ok tt
       go stage.Opening a = absurd (let z = ap length a in omega (arith, z))
       go stage.Acting a = absurd (loud h.outputs h.some h.prints (each_back (Silent w) (h.settings ∷ h.acting) h.outputs a.1))
       go stage.Printing a = refl
@@ -309,19 +307,19 @@ module _ (job : List ℕ) where
     more : List ℕ
     begins : rest ≡ bytes_of f ++ more
     placing : InPlace w before f
-    here : placed s (found w f) ≡ placed.InPlace next
+    here : placed s (found w f) ≡ Ok next
 
   behind : (before : List FieldBytes) (rest : List ℕ) → job ≡ joined before ++ rest → drop (from before) job ≡ rest
   behind before rest e = ap (drop (from before)) e ∙ drop-append_seam (joined before) rest
 
   next_field : (before : List FieldBytes) (rest : List ℕ) (s next : Stage) → job ≡ joined before ++ rest → At w before s
-      → placed s (field_at job (from before)).kind ≡ placed.InPlace next → Next before s next rest
+      → placed s (field_at job (from before)).kind ≡ Ok next → Next before s next rest
   unfolding field_at
   next_field before rest s next e a p =
       split (leb (end_at job (from before)) (length job))
       (λ b.
       let h = leb-true _ _ b in
-      let q : placed s (found w (here job (from before) h)) ≡ placed.InPlace next = rw b at p in
+      let q : placed s (found w (here job (from before) h)) ≡ Ok next = rw b at p in
       record {
         f = here job (from before) h;
         more = drop (end_at job (from before)) job;
@@ -329,40 +327,40 @@ module _ (job : List ℕ) where
         placing = back w before (here job (from before) h) s next a q;
         here = q;
       })
-      (λ b. let q : placed s (kind.Wrong CutOff) ≡ placed.InPlace next = rw b at p in differ (cc))
+      (λ b. let q : placed s (Err CutOff) ≡ Ok next = rw b at p in differ (cc))
 
   starts : (before : List FieldBytes) (rest : List ℕ) → job ≡ joined before ++ rest → 1 ≤ length rest → from before < length job
   starts before rest e l = let z = ap length e ∙ length-append (joined before) rest in omega (arith, z)
 
   -- no field that is in place begins the bytes there, so the one found is wrong
   wrong_here : (before : List FieldBytes) (rest : List ℕ) (s : Stage) → job ≡ joined before ++ rest → 1 ≤ length rest → At w before s
-      → ((f : FieldBytes) (more : List ℕ) → rest ≡ bytes_of f ++ more → InPlace w before f → ⊥) → onward before s ≡ WrongAt (from before)
+      → ((f : FieldBytes) (more : List ℕ) → rest ≡ bytes_of f ++ more → InPlace w before f → ⊥) → onward before s ≡ wrong_at (from before)
   wrong_here before rest s e l a none =
       let at = from before in
       let g = field_at job at in
       ap (λ (fs : List Field). shape_from (length job) fs s) (fields_step job at (starts before rest e l))
       ∙ go (placed s g.kind) refl
     where
-      go : (x : Placed) → placed s (field_at job (from before)).kind ≡ x
-          → shape_from (length job) (field_at job (from before) ∷ fields_from job (field_at job (from before)).next) s ≡ WrongAt (from before)
-      go (placed.InPlace next) p = let x = next_field before rest s next e a p in absurd (none x.f x.more x.begins x.placing)
-      go (placed.NotRight c) p =
-          shape_wrong (length job) (field_at job (from before)) (fields_from job (field_at job (from before)).next) s c p ∙ ap WrongAt (place_at job (from before))
+      go : (x : Result Stage Cause) → placed s (field_at job (from before)).kind ≡ x
+          → shape_from (length job) (field_at job (from before) ∷ fields_from job (field_at job (from before)).next) s ≡ wrong_at (from before)
+      go (Ok next) p = let x = next_field before rest s next e a p in absurd (none x.f x.more x.begins x.placing)
+      go (Err c) p =
+          shape_wrong (length job) (field_at job (from before)) (fields_from job (field_at job (from before)).next) s c p ∙ ap wrong_at (place_at job (from before))
 
-  pub first_wrong : (place : ℕ) → FirstWrong job place → shape_of job ≡ WrongAt place
+  pub first_wrong : (place : ℕ) → FirstWrong job place → shape_of job ≡ wrong_at place
   unfolding shape_of joined
   first_wrong place (shape.over_long h e) = rw (lt-leb (length job) job_bytes h, e)
   first_wrong place (shape.no_output l fs e h n q) =
       let t = whole_through fs e h in
-      shape_short l ∙ t.same ∙ at_end fs t.next e ∙ go t.next t.at ∙ ap WrongAt (sym q)
+      shape_short l ∙ t.same ∙ at_end fs t.next e ∙ go t.next t.at ∙ ap wrong_at (sym q)
     where
-      go : (s : Stage) → At w fs s → shape_at_end (length job) s ≡ WrongAt (length job)
+      go : (s : Stage) → At w fs s → shape_at_end (length job) s ≡ wrong_at (length job)
       go stage.Opening a = refl
       go stage.Acting a = refl
       go stage.Printing a = absurd (a.1 n)
   first_wrong place (shape.wrong_field l before rest e some h none q) =
       let t = through before [] stage.Opening rest e refl h in
-      shape_short l ∙ t.same ∙ wrong_here before rest t.next e some t.at none ∙ ap WrongAt (sym q)
+      shape_short l ∙ t.same ∙ wrong_here before rest t.next e some t.at none ∙ ap wrong_at (sym q)
 
   -- ---- what is found, and so said of the bytes
 
@@ -373,9 +371,9 @@ module _ (job : List ℕ) where
     order : AllInPlace w [] fs
     some : EachOf (Silent w) fs → ⊥
 
-  abbrev Said : Shape → Type 0
-  Said Right = Whole
-  Said (WrongAt place) = FirstWrong job place
+  abbrev Said : Result ⊤ WrongAt → Type 0
+  Said (Ok x) = Whole
+  Said (Err wrong) = FirstWrong job wrong.0
 
   module _ (short : length job ≤ 8192) where
     said_end : (before : List FieldBytes) (s : Stage) → job ≡ joined before → At w before s → AllInPlace w [] before → Said (shape_at_end (length job) s)
@@ -385,13 +383,13 @@ module _ (job : List ℕ) where
 
     -- a field that is wrong by the stage
     said_wrong : (before : List FieldBytes) (rest : List ℕ) (s : Stage) (c : Cause) → job ≡ joined before ++ rest → 1 ≤ length rest → At w before s → AllInPlace w [] before
-        → placed s (field_at job (from before)).kind ≡ placed.NotRight c → FirstWrong job (from before)
+        → placed s (field_at job (from before)).kind ≡ Err c → FirstWrong job (from before)
     said_wrong before rest s c e l a h p =
         shape.wrong_field short before rest e l h
         (λ f more q i.
         let o = on w before f s a i in
         let g = field_after before f more (e ∙ ap (λ (l : List ℕ). joined before ++ l) q) in
-        let z : placed.NotRight c ≡ placed.InPlace o.next = sym p ∙ ap (λ (x : Field). placed s x.kind) g ∙ o.here in
+        let z : Err c ≡ Ok o.next = sym p ∙ ap (λ (x : Field). placed s x.kind) g ∙ o.here in
         differ (cc))
         refl
 
@@ -411,17 +409,17 @@ module _ (job : List ℕ) where
         subst (λ (fs : List Field). Said (shape_from (length job) fs s)) (sym (fields_step job (from before) (starts before rest e some)))
         (go (placed s (field_at job (from before)).kind) refl)
       where
-        go : (y : Placed) → placed s (field_at job (from before)).kind ≡ y
+        go : (y : Result Stage Cause) → placed s (field_at job (from before)).kind ≡ y
             → Said (shape_from (length job) (field_at job (from before) ∷ fields_from job (field_at job (from before)).next) s)
-        go (placed.NotRight c) p =
-            subst Said (sym (shape_wrong (length job) (field_at job (from before)) (fields_from job (field_at job (from before)).next) s c p ∙ ap WrongAt (place_at job (from before))))
+        go (Err c) p =
+            subst Said (sym (shape_wrong (length job) (field_at job (from before)) (fields_from job (field_at job (from before)).next) s c p ∙ ap wrong_at (place_at job (from before))))
             (said_wrong before rest s c e some a h p)
-        go (placed.InPlace next) p =
+        go (Ok next) p =
             let y = next_field before rest s next e a p in
             let q : job ≡ joined before ++ (bytes_of y.f ++ y.more) = e ∙ ap (λ (l : List ℕ). joined before ++ l) y.begins in
             let z : length rest ≡ length (bytes_of y.f) + length y.more = ap length y.begins ∙ length-append (bytes_of y.f) y.more in
             let o = on w before y.f s a y.placing in
-            let same : placed.InPlace o.next ≡ placed.InPlace next = sym o.here ∙ y.here in
+            let same : Ok o.next ≡ Ok next = sym o.here ∙ y.here in
             let k : o.next ≡ next = cc in
             let i = further (before ++ y.f ∷ []) y.more next (omega (arith, z)) (after before y.f y.more q) (rw k at o.at) (all_snoc w before [] y.f h y.placing) in
             subst (λ (fs : List Field). Said (shape_from (length job) fs s)) (fields_step job (from before) (starts before rest e some))
@@ -441,16 +439,16 @@ module _ (job : List ℕ) where
     unfolding joined
     all_said = said (length job) [] job stage.Opening (omega arith) refl refl tt
 
-  long_wrong : length job ≤ 8192 → (x : Shape) → shape_of job ≡ x → Said x
+  long_wrong : length job ≤ 8192 → (x : Result ⊤ WrongAt) → shape_of job ≡ x → Said x
   long_wrong short x e = subst Said (sym (shape_short short) ∙ e) (all_said short)
 
-  pub wrong_first : (place : ℕ) → shape_of job ≡ WrongAt place → FirstWrong job place
+  pub wrong_first : (place : ℕ) → shape_of job ≡ wrong_at place → FirstWrong job place
   unfolding shape_of
   wrong_first place e =
-      split (leb (length job) job_bytes) (λ b. long_wrong (leb-true _ _ b) (WrongAt place) e)
+      split (leb (length job) job_bytes) (λ b. long_wrong (leb-true _ _ b) (wrong_at place) e)
       (λ b.
-      let q : WrongAt 0 ≡ WrongAt place = rw b at e in
-      let z : 0 ≡ place = cc in
+      let q : wrong_at 0 ≡ wrong_at place = rw b at e in
+      let z = same_place q in
       shape.over_long (leb-false (length job) job_bytes b) (sym z))
 
   well : length job ≤ 8192 → (x : Whole) → WellShaped job
@@ -482,8 +480,8 @@ module _ (job : List ℕ) where
               some [] d = absurd (d refl)
               some (g ∷ l) d = omega arith
 
-  pub right_well : shape_of job ≡ Right → WellShaped job
+  pub right_well : shape_of job ≡ Ok tt → WellShaped job
   unfolding shape_of
   right_well e =
-      split (leb (length job) job_bytes) (λ b. well (leb-true _ _ b) (long_wrong (leb-true _ _ b) Right e))
-      (λ b. let q : WrongAt 0 ≡ Right = rw b at e in differ (cc))
+      split (leb (length job) job_bytes) (λ b. well (leb-true _ _ b) (long_wrong (leb-true _ _ b) (Ok tt) e))
+      (λ b. let q : wrong_at 0 ≡ Ok tt = rw b at e in differ (cc))

@@ -1,4 +1,5 @@
 -- Demand 1 of the single step. Assumes nothing.
+use Rattle.std.specs.Prelude.{Result, Ok, Err, ⊤}
 use mathlib.Core.Path.{◌≡◌, refl, sym, ap, ◌∙◌}
 use mathlib.Core.Bool.{Bool, true, false, cond, ◌&&◌, false≢true}
 use mathlib.Core.List.{[], ◌∷◌}
@@ -13,8 +14,6 @@ use Rattle.word.specs.declared.Refusal.TheVariants.{StateLength, Shape}
 use Rattle.control.specs.declared.Control.{Control}
 use Rattle.control.specs.Range.{in_range}
 use Rattle.rules.specs.Rules.{rules, operand_rules, judgement}
-use Rattle.rules.specs.declared.Verdict.{Verdict}
-use Rattle.rules.specs.declared.Verdict.TheVariants.{Done, Refused}
 use Rattle.rules.proofs.Reading.{never}
 use Rattle.cells.specs.Layout.{thread_count}
 use Rattle.cells.specs.State.{State, sized}
@@ -36,36 +35,36 @@ sizes_of s l = record { srca = l.srca; srcb = l.srcb; dst = l.dst; registers = l
 pub lengths_of : (s : State) → Sizes s → Lengths s
 lengths_of s l = record { srca = l.srca; srcb = l.srcb; dst = l.dst; registers = l.registers }
 
-judged_numbered : (c : Control) (t w : ℕ) (r : Refusal) → judgement c t w ≡ Refused r → one_of (number_of r) step_numbers ≡ true
+judged_numbered : (c : Control) (t w : ℕ) (r : Refusal) → judgement c t w ≡ Err r → one_of (number_of r) step_numbers ≡ true
 unfolding judgement rules operand_rules
 judged_numbered c t w r e = lowest_numbered step_numbers (rules c t w) r refl e
 
 module _ (c : Control) (t w : ℕ) (s : State) where
-  tabled : (r : Refusal) → verdict_of c t w s ≡ Refused r → one_of (number_of r) step_numbers ≡ true
+  tabled : (r : Refusal) → verdict_of c t w s ≡ Err r → one_of (number_of r) step_numbers ≡ true
   tabled r e = ⊎_elim (judged_numbered c t w r) (⊎_elim (λ q. ap member q) (λ q. ap member q)) (refused_by_lem c t w s r e)
     where
       member : ℕ → Bool
       member n = one_of n step_numbers
 
   -- the rules stand in the order of their ranks
-  pub judged : (r : Refusal) → judgement c t w ≡ Refused r → Lowest (rules c t w) r
+  pub judged : (r : Refusal) → judgement c t w ≡ Err r → Lowest (rules c t w) r
   unfolding judgement rules operand_rules rising
   judged r e = lowest_is 0 (rules c t w) r refl e
 
-  unjudged : judgement c t w ≡ Done → (q : Refusal) → broken_rule q (rules c t w) ≡ false
+  unjudged : judgement c t w ≡ Ok tt → (q : Refusal) → broken_rule q (rules c t w) ≡ false
   unfolding judgement
   unjudged e = none_broken (rules c t w) e
 
-  judged_done : ((q : Refusal) → broken_rule q (rules c t w) ≡ false) → judgement c t w ≡ Done
+  judged_done : ((q : Refusal) → broken_rule q (rules c t w) ≡ false) → judgement c t w ≡ Ok tt
   judged_done h = go (judgement c t w) refl
     where
-      go : (v : Verdict) → judgement c t w ≡ v → v ≡ Done
-      go Done e = refl
-      go (Refused r) e = absurd (false≢true (sym (h r) ∙ (judged r e).broken))
+      go : (v : Result ⊤ Refusal) → judgement c t w ≡ v → v ≡ Ok tt
+      go (Ok u) e = refl
+      go (Err r) e = absurd (false≢true (sym (h r) ∙ (judged r e).broken))
 
   -- ---- by the lengths, the range and the rules, in this order
 
-  nine : (Lengths s → ⊥) → verdict_of c t w s ≡ Refused StateLength
+  nine : (Lengths s → ⊥) → verdict_of c t w s ≡ Err StateLength
   unfolding verdict_of
   nine h = simp (unsized s (λ z. h (lengths_of s z)))
 
@@ -75,7 +74,7 @@ module _ (c : Control) (t w : ℕ) (s : State) where
   out_of_bounds : (RecordIn c × (t < 3) → ⊥) → (in_range c && ltb t thread_count) ≡ false
   out_of_bounds h = split (in_range c && ltb t thread_count) (λ e. absurd (h (in_bounds e))) (λ e. e)
 
-  one : Lengths s → (RecordIn c × (t < 3) → ⊥) → verdict_of c t w s ≡ Refused Shape
+  one : Lengths s → (RecordIn c × (t < 3) → ⊥) → verdict_of c t w s ≡ Err Shape
   unfolding verdict_of
   one l h = simp (sized_of s (sizes_of s l), out_of_bounds h)
 
@@ -84,29 +83,29 @@ module _ (c : Control) (t w : ℕ) (s : State) where
   by_rules l r h = simp (sized_of s (sizes_of s l), record_ok c r, lt-ltb t thread_count h)
 
   -- the rules have neither 9 nor 1
-  not_judged : (r : Refusal) → one_of (number_of r) (2 ∷ 3 ∷ 4 ∷ 5 ∷ 6 ∷ 7 ∷ []) ≡ false → judgement c t w ≢ Refused r
+  not_judged : (r : Refusal) → one_of (number_of r) (2 ∷ 3 ∷ 4 ∷ 5 ∷ 6 ∷ 7 ∷ []) ≡ false → judgement c t w ≢ Err r
   unfolding judgement rules operand_rules
   not_judged r h e = false≢true (sym h ∙ lowest_numbered (2 ∷ 3 ∷ 4 ∷ 5 ∷ 6 ∷ 7 ∷ []) (rules c t w) r refl e)
 
-  not_nine : Lengths s → verdict_of c t w s ≢ Refused StateLength
+  not_nine : Lengths s → verdict_of c t w s ≢ Err StateLength
   unfolding verdict_of
   not_nine l e =
       split (in_range c && ltb t thread_count)
       (λ b. let q = in_bounds b in not_judged StateLength refl (sym (by_rules l q.0 q.1) ∙ e))
-      (λ b. let q : Refused Shape ≡ Refused StateLength = sym (one l (λ z. false≢true (sym b ∙ rw (record_ok c z.0, lt-ltb t thread_count z.1)))) ∙ e in differ (cc))
+      (λ b. let q : Err Shape ≡ Err StateLength = sym (one l (λ z. false≢true (sym b ∙ rw (record_ok c z.0, lt-ltb t thread_count z.1)))) ∙ e in differ (cc))
 
-  not_one : RecordIn c → t < 3 → verdict_of c t w s ≢ Refused Shape
+  not_one : RecordIn c → t < 3 → verdict_of c t w s ≢ Err Shape
   unfolding verdict_of
   not_one r h e =
       split (sized s)
       (λ b. not_judged Shape refl (sym (by_rules (lengths_of s (sizes s b)) r h) ∙ e))
-      (λ b. let q : Refused StateLength ≡ Refused Shape = rw b at e in differ (cc))
+      (λ b. let q : Err StateLength ≡ Err Shape = rw b at e in differ (cc))
 
-  done_lengths : verdict_of c t w s ≡ Done → judgement c t w ≡ Done
+  done_lengths : verdict_of c t w s ≡ Ok tt → judgement c t w ≡ Ok tt
   unfolding verdict_of
   done_lengths e = go (sized s) (in_range c && ltb t thread_count) e
     where
-      go : (size range : Bool) → cond size (cond range (judgement c t w) (Refused Shape)) (Refused StateLength) ≡ Done → judgement c t w ≡ Done
+      go : (size range : Bool) → cond size (cond range (judgement c t w) (Err Shape)) (Err StateLength) ≡ Ok tt → judgement c t w ≡ Ok tt
       go true true e = e
       go true false e = absurd (never e)
       go false range e = absurd (never e)

@@ -10,9 +10,11 @@ use borrow.Author.Tests.{eqb-false, eq-eqb, ne_eqb}
 use lib.Dec.{eqb}
 use lib.ListN.{length, get_or, drop}
 use lib.Seq.{get_or-drop}
+use Rattle.std.specs.Prelude.{Result, Ok, Err}
 use Rattle.cells.specs.declared.Width.{Width}
 use Rattle.cells.specs.declared.Width.TheVariants.{Bits16}
 use Rattle.word.specs.Bits.{bit}
+use Rattle.job.specs.declared.Cause.{Cause}
 use Rattle.job.specs.Fields.{job_width, fields_from}
 use Rattle.job.specs.Settings.{settings_of}
 use Rattle.job.specs.declared.Kind.{Kind}
@@ -34,13 +36,13 @@ use Rattle.demand.proofs.Shapes.{field_after, inside, after, from}
 
 module _ (w : Width) (f : FieldBytes) where
   -- a field of any kind but Wrong
-  abbrev Read : Kind → Type 0
-  Read kind.Settings = Unit {0}
-  Read (kind.Issue t x) = Unit {0}
-  Read (kind.HandOver file) = Unit {0}
-  Read (kind.Writes x) = Unit {0}
-  Read (kind.Prints o) = Unit {0}
-  Read (kind.Wrong c) = ⊥
+  abbrev Read : Result Kind Cause → Type 0
+  Read (Ok kind.Settings) = Unit {0}
+  Read (Ok (kind.Issue t x)) = Unit {0}
+  Read (Ok (kind.HandOver file)) = Unit {0}
+  Read (Ok (kind.Writes x)) = Unit {0}
+  Read (Ok (kind.Prints o)) = Unit {0}
+  Read (Err c) = ⊥
 
   other : (n : ℕ) → f.tag ≡ n → (n ≡ 5 → ⊥) → false ≡ eqb f.tag 5
   other n e d = sym (ne_eqb f.tag 5 (λ q. d (sym e ∙ q)))
@@ -58,29 +60,29 @@ module _ (w : Width) (f : FieldBytes) where
   issue_tag : Read (found w f) → is_issue (found w f) ≡ eqb f.tag 5
   issue_tag h = go (found w f) (says w f.tag f.payload) h
     where
-      go : (k : Kind) → Says w f.tag f.payload k → Read k → is_issue k ≡ eqb f.tag 5
-      go kind.Settings s h = other 1 s.0 (λ q. omega arith)
-      go (kind.Issue t x) s h = sym (eq-eqb f.tag 5 s.1)
-      go (kind.HandOver file) s h = other 4 s.0 (λ q. omega arith)
-      go (kind.Writes x) s h = write_tag x s
-      go (kind.Prints o) s h = output_tag o s
-      go (kind.Wrong c) s h = absurd h
+      go : (k : Result Kind Cause) → Says w f.tag f.payload k → Read k → is_issue k ≡ eqb f.tag 5
+      go (Ok kind.Settings) s h = other 1 s.0 (λ q. omega arith)
+      go (Ok (kind.Issue t x)) s h = sym (eq-eqb f.tag 5 s.1)
+      go (Ok (kind.HandOver file)) s h = other 4 s.0 (λ q. omega arith)
+      go (Ok (kind.Writes x)) s h = write_tag x s
+      go (Ok (kind.Prints o)) s h = output_tag o s
+      go (Err c) s h = absurd h
 
-  acting_read : (k : Kind) → Acting k → Read k
-  acting_read kind.Settings a = absurd a
-  acting_read (kind.Issue t x) a = tt
-  acting_read (kind.HandOver file) a = tt
-  acting_read (kind.Writes x) a = tt
-  acting_read (kind.Prints o) a = absurd a
-  acting_read (kind.Wrong c) a = absurd a
+  acting_read : (k : Result Kind Cause) → Acting k → Read k
+  acting_read (Ok kind.Settings) a = absurd a
+  acting_read (Ok (kind.Issue t x)) a = tt
+  acting_read (Ok (kind.HandOver file)) a = tt
+  acting_read (Ok (kind.Writes x)) a = tt
+  acting_read (Ok (kind.Prints o)) a = absurd a
+  acting_read (Err c) a = absurd a
 
-  printing_read : (k : Kind) → Printing k → Read k
-  printing_read kind.Settings a = absurd a
-  printing_read (kind.Issue t x) a = absurd a
-  printing_read (kind.HandOver file) a = absurd a
-  printing_read (kind.Writes x) a = absurd a
-  printing_read (kind.Prints o) a = tt
-  printing_read (kind.Wrong c) a = absurd a
+  printing_read : (k : Result Kind Cause) → Printing k → Read k
+  printing_read (Ok kind.Settings) a = absurd a
+  printing_read (Ok (kind.Issue t x)) a = absurd a
+  printing_read (Ok (kind.HandOver file)) a = absurd a
+  printing_read (Ok (kind.Writes x)) a = absurd a
+  printing_read (Ok (kind.Prints o)) a = tt
+  printing_read (Err c) a = absurd a
 
 -- ---- of a whole job
 

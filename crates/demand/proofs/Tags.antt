@@ -7,6 +7,7 @@ use native.Mathlib.Omega.{arith}
 use borrow.Author.Tests.{ltb-true, lt-ltb, leb-true, le-leb, eqb-true, eq-eqb, ne_eqb, eqb-false}
 use lib.Dec.{leb, ltb, eqb}
 use lib.ListN.{length, get_or}
+use Rattle.std.specs.Prelude.{Result, Ok, Err}
 use Rattle.cells.specs.declared.layout.File.{File}
 use Rattle.cells.specs.declared.layout.File.TheVariants.{A, B}
 use Rattle.cells.specs.declared.layout.Span.{Span}
@@ -18,6 +19,7 @@ use Rattle.cells.specs.Tests.{below, all}
 use Rattle.cells.proofs.Cells.{split}
 use Rattle.cells.proofs.Tests.{Each, each_of, all_of, below_of, of_below}
 use Rattle.control.specs.Range.{slot_tests, slot_ok, settings_tests}
+use Rattle.job.specs.declared.Cause.{Cause}
 use Rattle.job.specs.Bytes.{le2}
 use Rattle.job.specs.Settings.{slot_of, slot_right, thread_start, thread_right_tests, thread_right, settings_of, settings_right_tests, settings_right}
 use Rattle.job.specs.Kinds.{value_right, most_rows, dst_values, dst_rows_tests, register_tests, load_span, load_length_tests, src_load_tests, dst_load_tests, settings_kind, load_src, load_dst, load_file, load_rows, load_register, hand_over_file, issue, output_rows, output_register, zero_rows, read_kind}
@@ -104,27 +106,27 @@ module _ (p : List ℕ) where
 
 -- ---- what a kind is, whatever it carries
 
-abbrev pub Acting : Kind → Type 0
-Acting kind.Settings = ⊥
-Acting (kind.Issue t w) = Unit {0}
-Acting (kind.HandOver file) = Unit {0}
-Acting (kind.Writes x) = Unit {0}
-Acting (kind.Prints o) = ⊥
-Acting (kind.Wrong c) = ⊥
+abbrev pub Acting : Result Kind Cause → Type 0
+Acting (Ok kind.Settings) = ⊥
+Acting (Ok (kind.Issue t w)) = Unit {0}
+Acting (Ok (kind.HandOver file)) = Unit {0}
+Acting (Ok (kind.Writes x)) = Unit {0}
+Acting (Ok (kind.Prints o)) = ⊥
+Acting (Err c) = ⊥
 
-abbrev pub Printing : Kind → Type 0
-Printing kind.Settings = ⊥
-Printing (kind.Issue t w) = ⊥
-Printing (kind.HandOver file) = ⊥
-Printing (kind.Writes x) = ⊥
-Printing (kind.Prints o) = Unit {0}
-Printing (kind.Wrong c) = ⊥
+abbrev pub Printing : Result Kind Cause → Type 0
+Printing (Ok kind.Settings) = ⊥
+Printing (Ok (kind.Issue t w)) = ⊥
+Printing (Ok (kind.HandOver file)) = ⊥
+Printing (Ok (kind.Writes x)) = ⊥
+Printing (Ok (kind.Prints o)) = Unit {0}
+Printing (Err c) = ⊥
 
 -- the arm that a test takes
-taken : (P : Kind → Type 0) (b : Bool) (x y : Kind) → b ≡ true → P x → P (cond b x y)
+taken : (P : Result Kind Cause → Type 0) (b : Bool) (x y : Result Kind Cause) → b ≡ true → P x → P (cond b x y)
 taken P b x y e h = rw e h
 
-passed : (P : Kind → Type 0) (b : Bool) (x y : Kind) → b ≡ false → P y → P (cond b x y)
+passed : (P : Result Kind Cause → Type 0) (b : Bool) (x y : Result Kind Cause) → b ≡ false → P y → P (cond b x y)
 passed P b x y e h = rw e h
 
 rows_right : (w : Width) (first count n : ℕ) → RowsInside first count n (row_count w) → all (dst_rows_tests w (span first count) n) ≡ true
@@ -244,10 +246,10 @@ module _ (w : Width) (p : List ℕ) where
 
 module _ (w : Width) (f : FieldBytes) where
   -- what its reader finds
-  abbrev pub found : Kind
+  abbrev pub found : Result Kind Cause
   found = read_kind w f.tag f.payload
 
-  pub settles_kind : Settles f → found ≡ kind.Settings
+  pub settles_kind : Settles f → found ≡ Ok kind.Settings
   unfolding read_kind settings_kind
   settles_kind h = simp (h.tag, eq-eqb (length f.payload) 160 h.right.long, settings_right_lem f.payload h.right)
 
@@ -266,7 +268,7 @@ module _ (w : Width) (f : FieldBytes) where
 
   -- ---- and one that is read is right
 
-  pub kind_settles : found ≡ kind.Settings → Settles f
+  pub kind_settles : found ≡ Ok kind.Settings → Settles f
   kind_settles e =
       let s = subst (Says w f.tag f.payload) e (says w f.tag f.payload) in
       record { tag = s.0; right = settings_in f.payload s.1 s.2 }
@@ -309,13 +311,13 @@ module _ (w : Width) (f : FieldBytes) where
   pub kind_acts : Acting found → Acts w f
   kind_acts a = go found (says w f.tag f.payload) a
     where
-      go : (k : Kind) → Says w f.tag f.payload k → Acting k → Acts w f
-      go kind.Settings s a = absurd a
-      go (kind.Issue t x) s a = shape.issue s.1 (record { long = s.2; thread = omega (arith, ltb-true t thread_count s.0, s.3) })
-      go (kind.HandOver file) s a = shape.hand_over s.0 (record { long = s.1; file = omega (arith, file_number_lem file, s.2) })
-      go (kind.Writes x) s a = write_acts x s
-      go (kind.Prints o) s a = absurd a
-      go (kind.Wrong c) s a = absurd a
+      go : (k : Result Kind Cause) → Says w f.tag f.payload k → Acting k → Acts w f
+      go (Ok kind.Settings) s a = absurd a
+      go (Ok (kind.Issue t x)) s a = shape.issue s.1 (record { long = s.2; thread = omega (arith, ltb-true t thread_count s.0, s.3) })
+      go (Ok (kind.HandOver file)) s a = shape.hand_over s.0 (record { long = s.1; file = omega (arith, file_number_lem file, s.2) })
+      go (Ok (kind.Writes x)) s a = write_acts x s
+      go (Ok (kind.Prints o)) s a = absurd a
+      go (Err c) s a = absurd a
 
   output_prints : (o : Output) → OutputSays w f.tag f.payload o → Prints w f
   output_prints (output.Rows v rows) s =
@@ -327,10 +329,10 @@ module _ (w : Width) (f : FieldBytes) where
   pub kind_prints : Printing found → Prints w f
   kind_prints a = go found (says w f.tag f.payload) a
     where
-      go : (k : Kind) → Says w f.tag f.payload k → Printing k → Prints w f
-      go kind.Settings s a = absurd a
-      go (kind.Issue t x) s a = absurd a
-      go (kind.HandOver file) s a = absurd a
-      go (kind.Writes x) s a = absurd a
-      go (kind.Prints o) s a = output_prints o s
-      go (kind.Wrong c) s a = absurd a
+      go : (k : Result Kind Cause) → Says w f.tag f.payload k → Printing k → Prints w f
+      go (Ok kind.Settings) s a = absurd a
+      go (Ok (kind.Issue t x)) s a = absurd a
+      go (Ok (kind.HandOver file)) s a = absurd a
+      go (Ok (kind.Writes x)) s a = absurd a
+      go (Ok (kind.Prints o)) s a = output_prints o s
+      go (Err c) s a = absurd a

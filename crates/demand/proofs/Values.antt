@@ -3,8 +3,10 @@ use mathlib.Core.Path.{◌≡◌, refl}
 use mathlib.Core.Bool.{Bool}
 use mathlib.Core.List.{List, [], ◌∷◌}
 use Prim.Native.Nat.{ℕ, ◌+◌}
+use Rattle.std.specs.Prelude.{Result, Ok, Err}
 use Rattle.control.specs.declared.Control.{Control}
 use Rattle.control.specs.Record.{start}
+use Rattle.job.specs.declared.Cause.{Cause}
 use Rattle.job.specs.Fields.{job_width, settled_at, fields_from, EachField}
 use Rattle.job.specs.Values.{OtherValues}
 use Rattle.job.specs.declared.Kind.{Kind}
@@ -19,18 +21,18 @@ use Rattle.precheck.specs.Check.{check_from, precheck_of}
 
 module _ (job other : List ℕ) where
   -- of a job's bytes a field's control record asks for the settings alone
-  control_same : (c : Control) (place : ℕ) (k : Kind) → (k ≡ kind.Settings → (d : Control) → settled_at other d place ≡ settled_at job d place)
+  control_same : (c : Control) (place : ℕ) (k : Result Kind Cause) → (k ≡ Ok kind.Settings → (d : Control) → settled_at other d place ≡ settled_at job d place)
       → field_control other c place k ≡ field_control job c place k
   unfolding field_control
-  control_same c place kind.Settings h = h refl c
-  control_same c place (kind.Issue t w) h = refl
-  control_same c place (kind.HandOver file) h = refl
-  control_same c place (kind.Writes x) h = refl
-  control_same c place (kind.Prints o) h = refl
-  control_same c place (kind.Wrong x) h = refl
+  control_same c place (Ok kind.Settings) h = h refl c
+  control_same c place (Ok (kind.Issue t w)) h = refl
+  control_same c place (Ok (kind.HandOver file)) h = refl
+  control_same c place (Ok (kind.Writes x)) h = refl
+  control_same c place (Ok (kind.Prints o)) h = refl
+  control_same c place (Err x) h = refl
 
   walk_same : (fs : List Field) (c : Control) (m : Marks) (n : ℕ)
-      → EachField (λ f. f.kind ≡ kind.Settings → (d : Control) → settled_at other d f.place ≡ settled_at job d f.place) fs → check_from other fs c m n ≡ check_from job fs c m n
+      → EachField (λ f. f.kind ≡ Ok kind.Settings → (d : Control) → settled_at other d f.place ≡ settled_at job d f.place) fs → check_from other fs c m n ≡ check_from job fs c m n
   unfolding check_from
   walk_same [] c m n h = refl
   walk_same (f ∷ fs) c m n h =

@@ -10,6 +10,7 @@ use borrow.Author.Tests.{ltb-true, ltb-false}
 use lib.Dec.{ltb}
 use lib.ListN.{length, get_or, drop, length-take}
 use lib.Seq.{get_or-drop, get_or-take}
+use Rattle.std.specs.Prelude.{Ok}
 use Rattle.cells.proofs.Cells.{split}
 use Rattle.control.specs.declared.Control.{Control}
 use Rattle.control.specs.Record.{start, width_of}
@@ -18,7 +19,6 @@ use Rattle.job.specs.Fields.{payload_at, job_width, field_at, fields_from, EachF
 use Rattle.job.specs.Settings.{settings_bytes, settled}
 use Rattle.job.specs.Shape.{shape_of}
 use Rattle.job.specs.declared.Field.{Field}
-use Rattle.job.specs.declared.Shape.TheVariants.{Right}
 use Rattle.job.proofs.Walk.{place_at, fields_step, fields_end}
 use Rattle.job.specs.declared.Kind.TheVariants.{Settings}
 use Rattle.job.proofs.Shaped.{Ordered, NotSettings, some_field, opens, once, sound_at, shaped}
@@ -39,7 +39,7 @@ module _ (job : List ℕ) where
   stay_wide (f ∷ fs) c h o = (λ i. h, stay_wide fs _ (ap width_of (settings_stay job c f.place f.kind o.0) ∙ h) o.1)
 
   -- the first field of a right shape is the settings, at place 0
-  module _ (r : shape_of job ≡ Right) where
+  module _ (r : shape_of job ≡ Ok tt) where
     some : 0 < length job
     some =
         split (ltb 0 (length job)) (λ b. ltb-true 0 (length job) b)
@@ -48,7 +48,7 @@ module _ (job : List ℕ) where
     order : Ordered (field_at job 0 ∷ fields_from job (field_at job 0).next)
     order = rw (fields_step job 0 some) at (shaped job r).order
 
-    pub first : (field_at job 0).kind ≡ Settings
+    pub first : (field_at job 0).kind ≡ Ok Settings
     first = opens (field_at job 0) (fields_from job (field_at job 0).next) order
 
     long_first : settings_bytes ≤ le2 job 1

@@ -1,9 +1,10 @@
 -- Which field of a job breaks which rule, counted by definitions of their own. Definitions only.
-use Rattle.std.specs.Prelude.{◌≡◌, Bool, true, false, cond, ◌&&◌, ◌||◌, List, [], ◌∷◌, map, ℕ, zero, suc, ◌<◌, eqb, get_or}
+use Rattle.std.specs.Prelude.{◌≡◌, Bool, true, false, cond, ◌&&◌, ◌||◌, List, [], ◌∷◌, map, ℕ, zero, suc, ◌<◌, eqb, get_or, Result, Ok, Err}
 use Rattle.word.specs.Refusal.{number_of, rank_of}
 use Rattle.word.specs.declared.Refusal.{Refusal}
 use Rattle.control.specs.declared.Control.{Control}
 use Rattle.rules.specs.Rules.{Judged}
+use Rattle.job.specs.declared.Cause.{Cause}
 use Rattle.job.specs.declared.Kind.{Kind}
 use Rattle.job.specs.declared.Kind.TheVariants as kind
 use Rattle.job.specs.declared.Field.{Field}
@@ -31,13 +32,13 @@ pub record FirstBroken (job : List ℕ) (c : Control) (m : Marks) (fs : List Fie
   pub lowest : (q : Refusal) → rank_of q < rank_of r → breaks job c m fs index q ≡ false
   pub first : (i : ℕ) (q : Refusal) → i < index → breaks job c m fs i q ≡ false
 
-abbrev pub is_issue : Kind → Bool
-is_issue kind.Settings = false
-is_issue (kind.Issue t w) = true
-is_issue (kind.HandOver file) = false
-is_issue (kind.Writes x) = false
-is_issue (kind.Prints o) = false
-is_issue (kind.Wrong x) = false
+abbrev pub is_issue : Result Kind Cause → Bool
+is_issue (Ok kind.Settings) = false
+is_issue (Ok (kind.Issue t w)) = true
+is_issue (Ok (kind.HandOver file)) = false
+is_issue (Ok (kind.Writes x)) = false
+is_issue (Ok (kind.Prints o)) = false
+is_issue (Err x) = false
 
 -- the number of issue fields
 unfoldable pub issue_fields : List Field → ℕ

@@ -1,7 +1,6 @@
 -- Demand 3 in one piece, for every list of bytes, with no hypothesis on the job; demand 1 for the pre-check, the job run and the single step;
 -- which numbers the two Dst modes leave; and which instructions set the last SrcA row. A refusal 3 is number, place and bit. Definitions only.
-use Rattle.std.specs.Prelude.{◌≡◌, true, false, List, [], ◌∷◌, map, ◌⊎◌, ◌≢◌, ℕ, suc, ◌+◌, ◌%◌, ◌^◌, ◌≤◌, ◌<◌, ltb, length, get_or}
-use Rattle.std.proofs.Math.Option.{Option, none, some}
+use Rattle.std.specs.Prelude.{◌≡◌, true, false, List, [], ◌∷◌, map, ◌⊎◌, ◌≢◌, ℕ, suc, ◌+◌, ◌%◌, ◌^◌, ◌≤◌, ◌<◌, ltb, length, get_or, Option, None, Some, Ok, Err}
 use Rattle.std.specs.Int.Bits.{bit_and}
 use Rattle.cells.specs.declared.Width.TheVariants.{Bits16}
 use Rattle.word.specs.Refusal.{done, refused, number_of, bit_of, rank_of}
@@ -15,7 +14,6 @@ use Rattle.control.specs.declared.Control.{Control}
 use Rattle.control.specs.declared.Settings.{Settings}
 use Rattle.control.specs.Record.{start, thread_at, width_of}
 use Rattle.rules.specs.Rules.{rules}
-use Rattle.rules.specs.declared.Verdict.TheVariants as verdict
 use Rattle.cells.specs.State.{State}
 use Rattle.cells.specs.Tests.{one_of}
 use Rattle.step.specs.Step.{verdict_of, stepped_of, state_of, step_answer}
@@ -26,17 +24,16 @@ use Rattle.job.specs.Settings.{settled}
 use Rattle.job.specs.Values.{OtherValues}
 use Rattle.precheck.specs.Marks.{unset}
 use Rattle.precheck.specs.Check.{precheck_of}
-use Rattle.precheck.specs.declared.Checked.TheVariants as checked
 use Rattle.run.specs.Run.{ran, run_of}
 use Rattle.lines.specs.Text.{bytes_in, refused_text}
 use Rattle.lines.specs.Cursor.{start_cursor, loop_texts}
 use Rattle.lines.specs.Printed.{printed_of, texts_of}
-use Rattle.run.specs.declared.Outcome.TheVariants.{Finished, Refused}
 use Rattle.demand.specs.WellShaped.{WellShaped, fields_of, tagged, FirstWrong}
 use Rattle.demand.specs.RecordRange.{RecordIn}
 use Rattle.demand.specs.Offending.{LowestOffending, BitTold}
 use Rattle.demand.specs.Meetings.{Meeting, meeting_at, Goes, leaves, StepsOn, steps_done}
 use Rattle.demand.specs.Breaks.{broken_rule, breaks, FirstBroken, issue_fields}
+use Rattle.word.specs.Refusal.{refused_at}
 
 -- ---- the numbers of the table
 
@@ -87,40 +84,40 @@ word_in job p = le4 job (p + 4)
 
 pub record Demand3 (job : List ℕ) : Type 0 where
   -- a job passes exactly when its shape is right and no field breaks a rule
-  pub right : (n : ℕ) → precheck_of job ≡ checked.Passed n → WellShaped job
-  pub unbroken : (n : ℕ) → precheck_of job ≡ checked.Passed n → Unbroken job
-  pub passes : WellShaped job → Unbroken job → precheck_of job ≡ checked.Passed (issue_fields (fields_from job 0))
+  pub right : (n : ℕ) → precheck_of job ≡ Ok n → WellShaped job
+  pub unbroken : (n : ℕ) → precheck_of job ≡ Ok n → Unbroken job
+  pub passes : WellShaped job → Unbroken job → precheck_of job ≡ Ok (issue_fields (fields_from job 0))
   -- a job that passes, over any state of the right sizes, finishes with its number of issue fields: it is never refused
-  pub finishes : (n : ℕ) → precheck_of job ≡ checked.Passed n → (s : State) → Lengths s
-      → (run_of job s).outcome ≡ Finished (issue_fields (fields_from job 0))
+  pub finishes : (n : ℕ) → precheck_of job ≡ Ok n → (s : State) → Lengths s
+      → (run_of job s).outcome ≡ Ok (issue_fields (fields_from job 0))
   -- these are the fields with tag 5
   pub issues : (w : WellShaped job) → issue_fields (fields_from job 0) ≡ tagged 5 (fields_of w)
   -- that many single steps are done along the run, each on the record and the lent numbers that the fields before it leave
-  pub carried : (n : ℕ) → precheck_of job ≡ checked.Passed n → (s : State) → Lengths s → steps_done job (fields_from job 0) start s ≡ issue_fields (fields_from job 0)
+  pub carried : (n : ℕ) → precheck_of job ≡ Ok n → (s : State) → Lengths s → steps_done job (fields_from job 0) start s ≡ issue_fields (fields_from job 0)
   -- each field of the job is met, whatever it does
   pub met : (s : State) (k : ℕ) → k < length (fields_from job 0)
-      → (x : Meeting) × (meeting job s k ≡ some x) × (x.field.place ≡ get_or (map (λ (f : Field). f.place) (fields_from job 0)) k 0)
+      → (x : Meeting) × (meeting job s k ≡ Some x) × (x.field.place ≡ get_or (map (λ (f : Field). f.place) (fields_from job 0)) k 0)
   -- no field and no instruction is refused, from the first to the last, and what the last one leaves is what the run leaves
-  pub goes : (n : ℕ) → precheck_of job ≡ checked.Passed n → (s : State) → Lengths s → (k : ℕ) (x : Meeting) → meeting job s k ≡ some x → Goes x
-  pub ends : (n : ℕ) → precheck_of job ≡ checked.Passed n → (s : State) → Lengths s
-      → (k : ℕ) (x : Meeting) → meeting job s k ≡ some x → meeting job s (suc k) ≡ none → (run_of job s).state ≡ leaves job x
+  pub goes : (n : ℕ) → precheck_of job ≡ Ok n → (s : State) → Lengths s → (k : ℕ) (x : Meeting) → meeting job s k ≡ Some x → Goes x
+  pub ends : (n : ℕ) → precheck_of job ≡ Ok n → (s : State) → Lengths s
+      → (k : ℕ) (x : Meeting) → meeting job s k ≡ Some x → meeting job s (suc k) ≡ None → (run_of job s).state ≡ leaves job x
   -- each instruction hands on what its single step gives back
-  pub steps : (s : State) (k : ℕ) (x y : Meeting) → meeting job s k ≡ some x → meeting job s (suc k) ≡ some y → StepsOn x y
+  pub steps : (s : State) (k : ℕ) (x y : Meeting) → meeting job s k ≡ Some x → meeting job s (suc k) ≡ Some y → StepsOn x y
   -- over any two states of the right sizes it prints the same, in numbers and as texts
-  pub prints : (n : ℕ) → precheck_of job ≡ checked.Passed n → (s t : State) → Lengths s → Lengths t
+  pub prints : (n : ℕ) → precheck_of job ≡ Ok n → (s t : State) → Lengths s → Lengths t
       → printed_of job (run_of job s) ≡ printed_of job (run_of job t)
-  pub texts : (n : ℕ) → precheck_of job ≡ checked.Passed n → (s t : State) → Lengths s → Lengths t
+  pub texts : (n : ℕ) → precheck_of job ≡ Ok n → (s t : State) → Lengths s → Lengths t
       → texts_of job (run_of job s) ≡ texts_of job (run_of job t)
   -- a job turned down is named by its first wrong place with number 1, or by its first field that breaks a rule with its lowest number
-  pub misshapen : (p : ℕ) → FirstWrong job p → precheck_of job ≡ checked.Refused Shape p
-  pub found : (r : Refusal) (p : ℕ) → precheck_of job ≡ checked.Refused r p → Named job r p
+  pub misshapen : (p : ℕ) → FirstWrong job p → precheck_of job ≡ Err (refused_at Shape p)
+  pub found : (r : Refusal) (p : ℕ) → precheck_of job ≡ Err (refused_at r p) → Named job r p
   -- with one of the numbers 1 to 8
-  pub named : (r : Refusal) (p : ℕ) → precheck_of job ≡ checked.Refused r p → one_of (number_of r) job_numbers ≡ true
+  pub named : (r : Refusal) (p : ℕ) → precheck_of job ≡ Err (refused_at r p) → one_of (number_of r) job_numbers ≡ true
   -- number 3 is given at an issue field and has exactly the lowest offending bit of its word; no other number has a bit
-  pub at_issue : (r : Refusal) (p : ℕ) → precheck_of job ≡ checked.Refused r p → number_of r ≡ 3 → get_or job p 0 ≡ 5
-  pub bit : (r : Refusal) (p : ℕ) → precheck_of job ≡ checked.Refused r p → BitTold (word_in job p) r
+  pub at_issue : (r : Refusal) (p : ℕ) → precheck_of job ≡ Err (refused_at r p) → number_of r ≡ 3 → get_or job p 0 ≡ 5
+  pub bit : (r : Refusal) (p : ℕ) → precheck_of job ≡ Err (refused_at r p) → BitTold (word_in job p) r
   -- and a run over any state of the right sizes refuses it with the same number, place and bit, and leaves the state
-  pub refuses : (r : Refusal) (p : ℕ) → precheck_of job ≡ checked.Refused r p → (s : State) → Lengths s → run_of job s ≡ ran (Refused r p) s
+  pub refuses : (r : Refusal) (p : ℕ) → precheck_of job ≡ Err (refused_at r p) → (s : State) → Lengths s → run_of job s ≡ ran (Err (refused_at r p)) s
   -- other permitted values in the load fields leave the answer as it is; where the shape is wrong, in those before its first wrong place
   pub values : WellShaped job → (other : List ℕ) → OtherValues (λ f. true) job other → precheck_of other ≡ precheck_of job
   pub values_before : (p : ℕ) → FirstWrong job p
@@ -130,41 +127,41 @@ pub record Demand3 (job : List ℕ) : Type 0 where
 
 -- the job run, over any state: 9 at place 0 first of all
 pub record Demand1 (job : List ℕ) (s : State) : Type 0 where
-  pub unsized : (Lengths s → ⊥) → run_of job s ≡ ran (Refused StateLength 0) s
-  pub kept : (r : Refusal) (p : ℕ) → (run_of job s).outcome ≡ Refused r p → (run_of job s).state ≡ s
-  pub tabled : (r : Refusal) (p : ℕ) → (run_of job s).outcome ≡ Refused r p → one_of (number_of r) run_numbers ≡ true
+  pub unsized : (Lengths s → ⊥) → run_of job s ≡ ran (Err (refused_at StateLength 0)) s
+  pub kept : (r : Refusal) (p : ℕ) → (run_of job s).outcome ≡ Err (refused_at r p) → (run_of job s).state ≡ s
+  pub tabled : (r : Refusal) (p : ℕ) → (run_of job s).outcome ≡ Err (refused_at r p) → one_of (number_of r) run_numbers ≡ true
   -- number 3 is given at an issue field and has exactly the lowest offending bit of its word; no other number has a bit
-  pub at_issue : (r : Refusal) (p : ℕ) → (run_of job s).outcome ≡ Refused r p → number_of r ≡ 3 → get_or job p 0 ≡ 5
-  pub bit : (r : Refusal) (p : ℕ) → (run_of job s).outcome ≡ Refused r p → BitTold (word_in job p) r
+  pub at_issue : (r : Refusal) (p : ℕ) → (run_of job s).outcome ≡ Err (refused_at r p) → number_of r ≡ 3 → get_or job p 0 ≡ 5
+  pub bit : (r : Refusal) (p : ℕ) → (run_of job s).outcome ≡ Err (refused_at r p) → BitTold (word_in job p) r
   -- all that a refused run prints is the refusal's line
-  pub line : (r : Refusal) (p : ℕ) → (run_of job s).outcome ≡ Refused r p → texts_of job (run_of job s) ≡ refused_text (number_of r) p (bit_of r) ∷ []
+  pub line : (r : Refusal) (p : ℕ) → (run_of job s).outcome ≡ Err (refused_at r p) → texts_of job (run_of job s) ≡ refused_text (number_of r) p (bit_of r) ∷ []
   -- a loop over the next text, in turns enough, writes all that the run prints, refused or finished: each text whole, once, in order
   pub written : (n : ℕ) → length (texts_of job (run_of job s)) ≤ n
       → map bytes_in (loop_texts n job (run_of job s).outcome start_cursor (run_of job s).state) ≡ texts_of job (run_of job s)
 
 -- the single step, over any record, thread, word and state: 1 to 7 or 9, and the record as it came
 pub record StepDemand1 (c : Control) (t w : ℕ) (s : State) : Type 0 where
-  pub kept : (r : Refusal) → verdict_of c t w s ≡ verdict.Refused r → state_of c t w s ≡ s
-  pub record_kept : (r : Refusal) → verdict_of c t w s ≡ verdict.Refused r → (stepped_of c t w s).control ≡ c
-  pub tabled : (r : Refusal) → verdict_of c t w s ≡ verdict.Refused r → one_of (number_of r) step_numbers ≡ true
+  pub kept : (r : Refusal) → verdict_of c t w s ≡ Err r → state_of c t w s ≡ s
+  pub record_kept : (r : Refusal) → verdict_of c t w s ≡ Err r → (stepped_of c t w s).control ≡ c
+  pub tabled : (r : Refusal) → verdict_of c t w s ≡ Err r → one_of (number_of r) step_numbers ≡ true
   -- 3 has exactly the lowest offending bit of the word, and is given where there is one; no other number has a bit
-  pub bit : (r : Refusal) → verdict_of c t w s ≡ verdict.Refused r → BitTold w r
-  pub three : Lengths s → RecordIn c → t < 3 → (b : ℕ) → LowestOffending w b → verdict_of c t w s ≡ verdict.Refused (UnnamedBit b)
+  pub bit : (r : Refusal) → verdict_of c t w s ≡ Err r → BitTold w r
+  pub three : Lengths s → RecordIn c → t < 3 → (b : ℕ) → LowestOffending w b → verdict_of c t w s ≡ Err (UnnamedBit b)
   -- in numbers, always at place 0
-  pub answered : (r : Refusal) → verdict_of c t w s ≡ verdict.Refused r → step_answer c t w s ≡ refused (number_of r) 0 (bit_of r)
-  pub answered_done : verdict_of c t w s ≡ verdict.Done → step_answer c t w s ≡ done
+  pub answered : (r : Refusal) → verdict_of c t w s ≡ Err r → step_answer c t w s ≡ refused (number_of r) 0 (bit_of r)
+  pub answered_done : verdict_of c t w s ≡ Ok tt → step_answer c t w s ≡ done
   -- 9 exactly when a length is wrong
-  pub nine : (Lengths s → ⊥) → verdict_of c t w s ≡ verdict.Refused StateLength
-  pub not_nine : Lengths s → verdict_of c t w s ≢ verdict.Refused StateLength
+  pub nine : (Lengths s → ⊥) → verdict_of c t w s ≡ Err StateLength
+  pub not_nine : Lengths s → verdict_of c t w s ≢ Err StateLength
   -- else 1 exactly when the record or the thread is out of range
-  pub one : Lengths s → (RecordIn c × (t < 3) → ⊥) → verdict_of c t w s ≡ verdict.Refused Shape
-  pub not_one : RecordIn c → t < 3 → verdict_of c t w s ≢ verdict.Refused Shape
+  pub one : Lengths s → (RecordIn c × (t < 3) → ⊥) → verdict_of c t w s ≡ Err Shape
+  pub not_one : RecordIn c → t < 3 → verdict_of c t w s ≢ Err Shape
   -- else the first in rank of the rules 2 to 7 that are broken, which has the lowest number; and it is done exactly when none is broken
-  pub broken : Lengths s → RecordIn c → t < 3 → (r : Refusal) → verdict_of c t w s ≡ verdict.Refused r → broken_rule r (rules c t w) ≡ true
-  pub lowest : Lengths s → RecordIn c → t < 3 → (r : Refusal) → verdict_of c t w s ≡ verdict.Refused r
+  pub broken : Lengths s → RecordIn c → t < 3 → (r : Refusal) → verdict_of c t w s ≡ Err r → broken_rule r (rules c t w) ≡ true
+  pub lowest : Lengths s → RecordIn c → t < 3 → (r : Refusal) → verdict_of c t w s ≡ Err r
       → (q : Refusal) → rank_of q < rank_of r → broken_rule q (rules c t w) ≡ false
-  pub unbroken : verdict_of c t w s ≡ verdict.Done → (q : Refusal) → broken_rule q (rules c t w) ≡ false
-  pub done : Lengths s → RecordIn c → t < 3 → ((q : Refusal) → broken_rule q (rules c t w) ≡ false) → verdict_of c t w s ≡ verdict.Done
+  pub unbroken : verdict_of c t w s ≡ Ok tt → (q : Refusal) → broken_rule q (rules c t w) ≡ false
+  pub done : Lengths s → RecordIn c → t < 3 → ((q : Refusal) → broken_rule q (rules c t w) ≡ false) → verdict_of c t w s ≡ Ok tt
 
 -- ---- the two Dst modes, spelled out apart from the definitions that the rules and the widths go by
 
@@ -201,7 +198,7 @@ pub record WordModes (c : Control) (t w : ℕ) : Type 0 where
   pub five : Unmodelled c.settings w → broken_rule UnmodelledSettings (rules c t w) ≡ true
   -- 7 cannot occur in the BF16 mode: it is not broken, and no single step is refused with it
   pub not_seven : InBf16 c.settings → broken_rule DstRow (rules c t w) ≡ false
-  pub step : InBf16 c.settings → (s : State) (r : Refusal) → verdict_of c t w s ≡ verdict.Refused r → number_of r ≢ 7
+  pub step : InBf16 c.settings → (s : State) (r : Refusal) → verdict_of c t w s ≡ Err r → number_of r ≢ 7
 
 pub record JobModes (job : List ℕ) : Type 0 where
   -- rows are of 16 bits exactly when the settings, whose payload begins at byte 3, have format 2 and of the flags neither Fp32, INT8 nor FP16A force, bits 0
@@ -211,8 +208,8 @@ pub record JobModes (job : List ℕ) : Type 0 where
   -- in a job of right shape this is the width of the record that its settings make
   pub width : WellShaped job → job_width job ≡ width_of (settled start (payload_at job 0)).settings
   -- neither the pre-check nor a run over any state refuses a job in the BF16 mode with 7
-  pub check : job_width job ≡ Bits16 → (r : Refusal) (p : ℕ) → precheck_of job ≡ checked.Refused r p → number_of r ≢ 7
-  pub run : job_width job ≡ Bits16 → (s : State) (r : Refusal) (p : ℕ) → (run_of job s).outcome ≡ Refused r p → number_of r ≢ 7
+  pub check : job_width job ≡ Bits16 → (r : Refusal) (p : ℕ) → precheck_of job ≡ Err (refused_at r p) → number_of r ≢ 7
+  pub run : job_width job ≡ Bits16 → (s : State) (r : Refusal) (p : ℕ) → (run_of job s).outcome ≡ Err (refused_at r p) → number_of r ≢ 7
 
 -- ---- the last SrcA row, spelled out by opcodes apart from what an instruction means
 
@@ -223,7 +220,7 @@ row_leaving = 0x26 ∷ 0x29 ∷ 0x34 ∷ 0x22 ∷ 0x23 ∷ 0x24 ∷ 0x25 ∷ 0x3
 -- a single step, over any record, thread, word and state; one that is refused leaves the whole record (`StepDemand1.record_kept`)
 pub record LastRow (c : Control) (t w : ℕ) (s : State) : Type 0 where
   -- these, done, leave SrcA counter & 0x30, the counter as the step was given it
-  pub left : one_of (opcode_of w) row_leaving ≡ true → verdict_of c t w s ≡ verdict.Done
+  pub left : one_of (opcode_of w) row_leaving ≡ true → verdict_of c t w s ≡ Ok tt
       → (stepped_of c t w s).control.last ≡ bit_and (thread_at c t).a.at.0 0x30
   -- every other word leaves it as it was
   pub stays : one_of (opcode_of w) row_leaving ≡ false → (stepped_of c t w s).control.last ≡ c.last

@@ -1,7 +1,6 @@
 -- Document 02, order 4: the lowest offending bit of a word, said of the rows of document 01's table and of the word's number, apart from the word
 -- reader; and that a refusal 3, and no other, has it. Definitions only.
-use Rattle.std.specs.Prelude.{◌≡◌, true, List, [], ◌∷◌, ◌⊎◌, ◌≢◌, ℕ, ◌/◌, ◌%◌, ◌^◌, ◌≤◌, ◌<◌}
-use Rattle.std.proofs.Math.Option.{Option, none, some}
+use Rattle.std.specs.Prelude.{◌≡◌, true, List, [], ◌∷◌, ◌⊎◌, ◌≢◌, ℕ, ◌/◌, ◌%◌, ◌^◌, ◌≤◌, ◌<◌, Option, None, Some}
 use Rattle.word.specs.Bits.{Range}
 use Rattle.word.specs.Table.{Row, table}
 use Rattle.word.specs.Refusal.{number_of, bit_of}
@@ -42,19 +41,19 @@ pub record LowestOffending (w b : ℕ) : Type 0 where
 
 -- a refusal by a word: number 3 has this bit of it, any other number none
 pub data BitTold (w : ℕ) (r : Refusal) : Type 0 where
-  three : (b : ℕ) → number_of r ≡ 3 → bit_of r ≡ some b → LowestOffending w b → BitTold w r
-  other : number_of r ≢ 3 → bit_of r ≡ none → BitTold w r
+  three : (b : ℕ) → number_of r ≡ 3 → bit_of r ≡ Some b → LowestOffending w b → BitTold w r
+  other : number_of r ≢ 3 → bit_of r ≡ None → BitTold w r
 
 -- the word reader's refusal n with a bit or none: 2 where no row is for the word, or 3 with this bit
 pub data WordTold (w n : ℕ) (x : Option ℕ) : Type 0 where
-  unknown : n ≡ 2 → x ≡ none → ((r : Row) → RowFor w r → ⊥) → WordTold w n x
-  offending : (b : ℕ) → n ≡ 3 → x ≡ some b → LowestOffending w b → WordTold w n x
+  unknown : n ≡ 2 → x ≡ None → ((r : Row) → RowFor w r → ⊥) → WordTold w n x
+  offending : (b : ℕ) → n ≡ 3 → x ≡ Some b → LowestOffending w b → WordTold w n x
 
 -- the word reader refuses any word exactly so: with 2 whatever its bits, and 3 with the one lowest offending bit
 pub record WordBits (w : ℕ) : Type 0 where
   pub told : (n : ℕ) (x : Option ℕ) → word_answer w ≡ refused_by n x → WordTold w n x
-  pub two : ((r : Row) → RowFor w r → ⊥) → word_answer w ≡ refused_by 2 none
-  pub three : (b : ℕ) → LowestOffending w b → word_answer w ≡ refused_by 3 (some b)
+  pub two : ((r : Row) → RowFor w r → ⊥) → word_answer w ≡ refused_by 2 None
+  pub three : (b : ℕ) → LowestOffending w b → word_answer w ≡ refused_by 3 (Some b)
 
 -- and under any record and thread it breaks the rules 2 and 3 exactly then
 pub record RuleBits (c : Control) (t w : ℕ) : Type 0 where

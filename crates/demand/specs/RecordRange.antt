@@ -3,7 +3,7 @@
 use Rattle.std.specs.Prelude.{◌≡◌, ◌⊎◌, ℕ, ◌≤◌, ◌<◌, get_or}
 use Rattle.control.specs.Record.{start_thread, zero_slot}
 use Rattle.control.specs.declared.Slot.{Slot}
-use Rattle.control.specs.declared.Src.{Src}
+use Rattle.control.specs.Counter.{Src}
 use Rattle.control.specs.declared.Banks.{Banks}
 use Rattle.control.specs.declared.Thread.{Thread}
 use Rattle.control.specs.declared.Control.{Control}

@@ -5,7 +5,7 @@ ghost use Rattle.std.specs.Prelude.{◌≡◌, ◌≢◌};
 ghost use Rattle.std.specs.Io.KnownBytes.{Appends};
 ghost use Rattle.run.specs.Run.{run_of};
 ghost use Rattle.show.specs.Bytes.{bytes_printed, zeros};
-ghost use Rattle.show.specs.Ends.{run_end};
+ghost use Rattle.show.specs.Ends.{answer_end};
 ghost use Rattle.show.specs.declared.end.End.TheVariants as End;
 
 use show::End;
@@ -13,26 +13,17 @@ use std::io::Write;
 
 // Any end but `Unwritten` is that of the run, and then all that it prints was written.
 fn run_job<W: Write>(out: &mut W, job: &[u8]) -> End
-    ensures { result ≢ End.Unwritten → (result ≡ run_end (run_of job.now zeros).outcome)
+    ensures { result ≢ End.Unwritten → (result ≡ answer_end (run_of job.now zeros).outcome)
         × Appends (W.contents out.old) (W.contents out.new) (bytes_printed job.now) }
 {
-    let mut srca = [0u32; cells::SRC_NUMBERS];
-    let mut srcb = [0u32; cells::SRC_NUMBERS];
-    let mut dst = [0u32; cells::DST_NUMBERS];
-    let mut registers = [0u32; cells::REGISTERS];
-    let outcome = run::run(job, &mut srca, &mut srcb, &mut dst, &mut registers);
-    let written = show::put_run(out, job, outcome, &dst, &registers);
-    show::told(show::run_end(outcome), written)
+    show::told(show::run_on_zeros(out, job).map(|outcome| show::answer_end(outcome)))
 }
 
 fn main(rt: HostRuntime) {
     let mut buffer = [0u8; cells::JOB_BYTES + 1];
-    let input = show::read(&mut rt.stdin(), &mut buffer);
-    if !input.whole {
-        show::say(&rt, End::Unread);
-        return;
-    }
-    let n = input.len;
-    let end = run_job(&mut rt.stdout(), &buffer[..n]);
+    let end = match show::read(&mut rt.stdin(), &mut buffer) {
+        Ok(n) => run_job(&mut rt.stdout(), &buffer[..n]),
+        Err(_) => End::Unread,
+    };
     show::say(&rt, end);
 }

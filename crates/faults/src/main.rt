@@ -4,16 +4,15 @@
 #![tactic(auto)]
 
 use lines::Text;
-use run::Outcome;
 use std::fs::{File, OpenOptions};
 use std::io;
 use std::io::{Read, Write};
-use word::Refusal;
+use word::{Refusal, Refused};
 
+// Here and below a bool is what is printed.
 fn read_whole<R: Read>(from: &mut R) -> bool {
     let mut space = [0u8; 8];
-    let input = show::read(from, &mut space);
-    input.whole
+    show::read(from, &mut space).is_ok()
 }
 
 fn put_text<W: Write>(out: &mut W) -> bool {
@@ -21,13 +20,13 @@ fn put_text<W: Write>(out: &mut W) -> bool {
         bytes: [10; 160],
         len: 1,
     };
-    show::put(out, text)
+    show::put(out, text).is_ok()
 }
 
-fn put_run<W: Write>(out: &mut W, outcome: Outcome) -> bool {
+fn put_run<W: Write>(out: &mut W, outcome: Result<usize, Refused>) -> bool {
     let dst = [0u32; 1];
     let registers = [0u32; 1];
-    show::put_run(out, b"", outcome, &dst, &registers)
+    show::put_run(out, b"", outcome, &dst, &registers).is_ok()
 }
 
 fn main(rt: HostRuntime) -> io::Result<()> {
@@ -43,8 +42,8 @@ fn main(rt: HostRuntime) -> io::Result<()> {
     println!(rt; "writes where it can: {put}")?;
     let unwritten = put_text(&mut for_reading);
     println!(rt; "writes where it cannot: {unwritten}")?;
-    let finished = put_run(&mut for_reading, Outcome::Finished(1));
+    let finished = put_run(&mut for_reading, Ok(1));
     println!(rt; "writes a finished run where it cannot: {finished}")?;
-    let refused = put_run(&mut for_reading, Outcome::Refused(Refusal::Shape, 0));
+    let refused = put_run(&mut for_reading, Err(Refusal::Shape.at(0)));
     println!(rt; "writes a refusal where it cannot: {refused}")
 }

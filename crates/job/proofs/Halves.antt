@@ -1,16 +1,13 @@
 -- The halves of the record and a settings field: joined, the core and the payload after it are the record after it, and the zeros that stand before
 -- any such field are the address slots at the start. Assumes nothing.
-use mathlib.Core.Path.{◌≡◌, refl, sym, ap, ◌∙◌}
+use mathlib.Core.Path.{◌≡◌, refl, ap, ◌∙◌}
 use mathlib.Core.Bool.{cond}
-use mathlib.Core.List.{List, [], ◌∷◌, ◌++◌}
-use Prim.Native.Nat.{ℕ, zero, suc, ◌+◌, ◌≤◌, ◌<◌}
-use native.Mathlib.Omega.{arith}
+use mathlib.Core.List.{List}
+use Prim.Native.Nat.{ℕ, ◌+◌, ◌≤◌, ◌<◌}
 use lib.Dec.{eqb, ltb}
-use lib.ListN.{length, get_or, take, replicate, get_or-replicate, get_or-eq_default}
-use lib.Seq.{take-suc}
+use lib.ListN.{length, get_or, replicate, get_or-replicate, get_or-eq_default}
 use borrow.Author.Tests.{ltb-true, ltb-false}
 use Rattle.cells.specs.Layout.{thread_count}
-use Rattle.cells.specs.Cells.{tabulate}
 use Rattle.cells.proofs.Cells.{split}
 use Rattle.cells.proofs.Tables.{get_d_table}
 use Rattle.control.specs.Record.{slot_count, zero_slot, start_thread, start, thread_at, slot_used}
@@ -19,13 +16,6 @@ use Rattle.control.specs.declared.Thread.{Thread}
 use Rattle.control.specs.declared.Core.{Core}
 use Rattle.control.proofs.Joined.{choice_joined}
 use Rattle.job.specs.Settings.{settings_bytes, thread_start, slot_start, slots_of, slot_of, settled, settled_by, choices_in, settled_core, core_by, bytes_by}
-
--- ---- the bytes
-
--- one by one
-pub each_byte : (p : List ℕ) (n : ℕ) → n ≤ length p → tabulate n (λ (i : ℕ). get_or p i 0) ≡ take n p
-each_byte p zero h = refl
-each_byte p (suc n) h = (λ i. each_byte p n (omega arith) i ++ (get_or p n 0 ∷ [])) ∙ sym (take-suc p n 0 h)
 
 -- ---- joined
 

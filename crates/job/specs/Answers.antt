@@ -1,7 +1,7 @@
 -- Document 01, "The job" and "Numbers given back": what reading a job gives back, in the paper's numbers. A field is its tag and the numbers that it
 -- carries, in the order of the table of tags; settings and loaded values stay in the payload. A wrong field, and a wrong shape, is refused with 1 at
 -- its place. Definitions only.
-use Rattle.std.specs.Prelude.{cond, List, [], ◌∷◌, ℕ, eqb, get_or}
+use Rattle.std.specs.Prelude.{cond, List, [], ◌∷◌, ℕ, eqb, get_or, ⊤, Result, Ok, Err}
 use Rattle.cells.specs.declared.layout.File.{File}
 use Rattle.cells.specs.declared.layout.File.TheVariants.{A, B}
 use Rattle.cells.specs.declared.layout.Span.{Span}
@@ -13,6 +13,7 @@ use Rattle.job.specs.Bytes.{le2, le4}
 use Rattle.job.specs.Kinds.{load_span}
 use Rattle.job.specs.Fields.{payload_at, job_width, field_at}
 use Rattle.job.specs.Shape.{shape_of}
+use Rattle.job.specs.declared.Cause.{Cause}
 use Rattle.job.specs.declared.Write.{Write}
 use Rattle.job.specs.declared.Write.TheVariants.{LoadSrc, LoadDst, LoadRegister, ZeroRows}
 use Rattle.job.specs.declared.Output.{Output}
@@ -20,8 +21,7 @@ use Rattle.job.specs.declared.Output.TheVariants.{Rows, Register}
 use Rattle.job.specs.declared.Kind.{Kind}
 use Rattle.job.specs.declared.Kind.TheVariants as kind
 use Rattle.job.specs.declared.Field.{Field}
-use Rattle.job.specs.declared.Shape.{Shape}
-use Rattle.job.specs.declared.Shape.TheVariants.{Right, WrongAt}
+use Rattle.job.specs.declared.WrongAt.{WrongAt}
 
 -- ---- the width of Dst's rows: how many there are, and below what their numbers are
 
@@ -58,13 +58,13 @@ output_numbers (Rows w rows) = carries 6 (row_numbers rows)
 output_numbers (Register t r) = carries 7 (t ∷ r ∷ [])
 
 -- of a field at this place
-abbrev pub kind_numbers : ℕ → Kind → FieldAnswer
-kind_numbers place kind.Settings = carries 1 []
-kind_numbers place (kind.Issue t w) = carries 5 (t ∷ w ∷ [])
-kind_numbers place (kind.HandOver file) = carries 4 (file_number file ∷ [])
-kind_numbers place (kind.Writes x) = write_numbers x
-kind_numbers place (kind.Prints o) = output_numbers o
-kind_numbers place (kind.Wrong c) = answers (answer_of refusal.Shape place)
+abbrev pub kind_numbers : ℕ → Result Kind Cause → FieldAnswer
+kind_numbers place (Ok kind.Settings) = carries 1 []
+kind_numbers place (Ok (kind.Issue t w)) = carries 5 (t ∷ w ∷ [])
+kind_numbers place (Ok (kind.HandOver file)) = carries 4 (file_number file ∷ [])
+kind_numbers place (Ok (kind.Writes x)) = write_numbers x
+kind_numbers place (Ok (kind.Prints o)) = output_numbers o
+kind_numbers place (Err c) = answers (answer_of refusal.Shape place)
 
 abbrev pub field_numbers : Field → FieldAnswer
 field_numbers f = kind_numbers f.place f.kind
@@ -82,13 +82,13 @@ payload_numbers tag p =
     []))))))
 
 -- what stands at a place: a wrong field is refused with 1 there, any other has its tag and the numbers of its payload
-abbrev pub standing : Kind → ℕ → ℕ → List ℕ → FieldAnswer
-standing kind.Settings place tag p = carries tag (payload_numbers tag p)
-standing (kind.Issue t w) place tag p = carries tag (payload_numbers tag p)
-standing (kind.HandOver file) place tag p = carries tag (payload_numbers tag p)
-standing (kind.Writes x) place tag p = carries tag (payload_numbers tag p)
-standing (kind.Prints o) place tag p = carries tag (payload_numbers tag p)
-standing (kind.Wrong c) place tag p = answers (answer_of refusal.Shape place)
+abbrev pub standing : Result Kind Cause → ℕ → ℕ → List ℕ → FieldAnswer
+standing (Ok kind.Settings) place tag p = carries tag (payload_numbers tag p)
+standing (Ok (kind.Issue t w)) place tag p = carries tag (payload_numbers tag p)
+standing (Ok (kind.HandOver file)) place tag p = carries tag (payload_numbers tag p)
+standing (Ok (kind.Writes x)) place tag p = carries tag (payload_numbers tag p)
+standing (Ok (kind.Prints o)) place tag p = carries tag (payload_numbers tag p)
+standing (Err c) place tag p = answers (answer_of refusal.Shape place)
 
 -- the field whose tag stands at `at`, by the job's bytes
 abbrev pub field_answer : List ℕ → ℕ → FieldAnswer
@@ -96,9 +96,9 @@ field_answer job at = standing (field_at job at).kind at (get_or job at 0) (payl
 
 -- ---- the shape
 
-abbrev pub shape_numbers : Shape → Answer
-shape_numbers Right = done
-shape_numbers (WrongAt place) = answer_of refusal.Shape place
+abbrev pub shape_numbers : Result ⊤ WrongAt → Answer
+shape_numbers (Ok x) = done
+shape_numbers (Err wrong) = answer_of refusal.Shape wrong.0
 
 abbrev pub shape_answer : List ℕ → Answer
 shape_answer job = shape_numbers (shape_of job)

@@ -16,12 +16,11 @@ fn load_part(part: Part, base: usize, payload: &[u8], lo: usize, hi: usize, file
     ensures { file.new ≡ over_part part lo hi (value_from payload.now lo) file.old }
 {
     let n = file.len();
+    let start = cells::cut_in(part, n, lo);
     let end = cells::cut_in(part, n, hi);
-    let mut i = cells::cut_in(part, n, lo);
-    while i < end {
+    for i in start..end {
         let v = read4(payload, 3 + 4 * (base + i - lo));
         file[i] = cells::with_part(part, file[i], v);
-        i += 1;
     }
 }
 

@@ -1,6 +1,9 @@
 -- Reading by the cursor gives the lines of the job, one after the other. Assumes nothing.
-use mathlib.Core.Path.{◌≡◌, refl, sym, ap, ◌∙◌}
+use Rattle.job.specs.declared.Cause.{Cause}
+use mathlib.Core.Path.{◌≡◌, refl, sym, ap, subst, ◌∙◌}
 use mathlib.Core.List.{List, [], ◌∷◌, ◌++◌}
+use Rattle.std.specs.Prelude.{None, Some, Result, Ok, Err}
+use Rattle.std.specs.declared.option.Option.{Option}
 use Prim.Native.Nat.{ℕ, zero, suc, ◌+◌, ◌-◌, ◌≤◌, ◌<◌}
 use native.Mathlib.Omega.{arith}
 use native.Mathlib.Numerals.{add-one}
@@ -12,33 +15,48 @@ use Rattle.cells.specs.declared.Width.{Width}
 use Rattle.cells.specs.declared.Width.TheVariants.{Bits32, Bits16}
 use Rattle.cells.specs.Places.{row_count}
 use Rattle.cells.proofs.Cells.{split}
-use Rattle.job.specs.Fields.{field_at, fields_from}
+use Rattle.job.specs.Fields.{field_at, fields_from, EachField}
 use Rattle.job.specs.declared.Kind.{Kind}
-use Rattle.job.specs.declared.Kind.TheVariants.{Settings, Issue, HandOver, Writes, Prints, Wrong}
+use Rattle.job.specs.declared.Kind.TheVariants.{Settings, Issue, HandOver, Writes, Prints}
 use Rattle.job.specs.declared.Output.{Output}
 use Rattle.job.specs.declared.Output.TheVariants.{Rows, Register}
 use Rattle.job.specs.declared.Field.{Field}
+use Rattle.job.specs.Range.{InRange}
+use Rattle.job.proofs.Shaped.{each_field}
+use Rattle.job.proofs.Says.{field_in_range}
 use Rattle.job.proofs.Walk.{grows, place_at, fields_end, fields_step}
 use Rattle.cells.specs.State.{State}
 use Rattle.lines.specs.Lines.{Line, row, columns, row_lines, output_lines, field_lines, lines_from, lines_of}
 use Rattle.lines.specs.Text.{line_of}
-use Rattle.lines.specs.Cursor.{answered_cursor, line_cursor, lines_at, line_count, what_at, next_in, next_from, next_line}
+use Rattle.lines.specs.Cursor.{output_of, answered_cursor, line_cursor, lines_at, line_count, what_at, next_in, next_from, next_line}
 use Rattle.lines.specs.declared.Cursor.{Cursor}
-use Rattle.lines.specs.declared.found.What.{What}
 use Rattle.lines.specs.declared.found.Found.{Found}
-use Rattle.lines.specs.declared.found.Found.TheVariants as found
 
 -- ---- a turn of `next_line`: f is a field of kind k, i lines from there on were read
 
+-- a field that is an output is one of kind Prints
+pub is_output : (k : Result Kind Cause) (o : Output) → output_of k ≡ Some o → k ≡ Ok (Prints o)
+is_output (Ok Settings) o h = absurd (let z : ◌≡◌ {A = ℕ} 0 1 = cc in omega arith)
+is_output (Ok (Issue t w)) o h = absurd (let z : ◌≡◌ {A = ℕ} 0 1 = cc in omega arith)
+is_output (Ok (HandOver file)) o h = absurd (let z : ◌≡◌ {A = ℕ} 0 1 = cc in omega arith)
+is_output (Ok (Writes x)) o h = absurd (let z : ◌≡◌ {A = ℕ} 0 1 = cc in omega arith)
+is_output (Ok (Prints p)) o h = let e : p ≡ o = cc in ap (λ (o : Output). Ok (Prints o)) e
+is_output (Err x) o h = absurd (let z : ◌≡◌ {A = ℕ} 0 1 = cc in omega arith)
+
 module _ (f : Field) (fs : List Field) (i : ℕ) where
   -- a field that prints nothing
-  pub next_silent : (k : Kind) → f.kind ≡ k → ((rest : ℕ → Found) → next_in k f.place i rest ≡ rest i) → next_from (f ∷ fs) i ≡ next_from fs i
-  unfolding next_from
-  next_silent k q e = rw q (e (λ n. next_from fs n))
+  pub next_silent : (k : Result Kind Cause) → f.kind ≡ k → output_of k ≡ None → next_from (f ∷ fs) i ≡ next_from fs i
+  unfolding next_from next_in
+  next_silent (Ok Settings) q h = rw q
+  next_silent (Ok (Issue t w)) q h = rw q
+  next_silent (Ok (HandOver file)) q h = rw q
+  next_silent (Ok (Writes x)) q h = rw q
+  next_silent (Ok (Prints o)) q h = absurd (let z : ◌≡◌ {A = ℕ} 0 1 = cc in omega arith)
+  next_silent (Err x) q h = rw q
 
   -- an output of n lines
-  module _ (o : Output) (q : f.kind ≡ Prints o) (n : ℕ) (p : n ≡ line_count o) where
-    pub next_here : i < n → next_from (f ∷ fs) i ≡ found.Line (what_at o i) (line_cursor f.place (i + 1))
+  module _ (o : Output) (q : f.kind ≡ Ok (Prints o)) (n : ℕ) (p : n ≡ line_count o) where
+    pub next_here : i < n → next_from (f ∷ fs) i ≡ Some (record { what = what_at o i; after = line_cursor f.place (i + 1) })
     unfolding next_from next_in
     next_here h = let l : i < line_count o = rw p at h in rw (q, lt-ltb i (line_count o) l)
 
@@ -46,9 +64,35 @@ module _ (f : Field) (fs : List Field) (i : ℕ) where
     unfolding next_from next_in
     next_on h = let l : line_count o ≤ i = rw p at h in rw (q, p, le-ltb i (line_count o) l)
 
-pub next_none : (i : ℕ) → next_from [] i ≡ found.End
+pub next_none : (i : ℕ) → next_from [] i ≡ None
 unfolding next_from
 next_none i = refl
+
+-- ---- the loop: fs are the fields that are left, and i lines from there on were read
+
+pub record Ahead (job : List ℕ) (at line : ℕ) (fs : List Field) (i : ℕ) : Type 0 where
+  pub same : next_from fs i ≡ next_from (fields_from job at) line
+  pub inside : EachField (λ f. InRange f.kind) fs
+
+pub ahead_first : (job : List ℕ) (at line : ℕ) → Ahead job at line (fields_from job at) line
+ahead_first job at line = record { same = refl; inside = each_field (λ f. InRange f.kind) job (λ p h. field_in_range job p) at }
+
+pub ahead_end : {job : List ℕ} {at line i : ℕ} {fs : List Field} → Ahead job at line fs i → fs ≡ [] → None ≡ next_from (fields_from job at) line
+ahead_end {i = i} t e = sym (next_none i) ∙ sym (ap (λ (hs : List Field). next_from hs i) e) ∙ t.same
+
+-- f is the first of them
+module _ {job : List ℕ} {at line i : ℕ} {fs gs : List Field} {f : Field} (t : Ahead job at line fs i) (e : fs ≡ f ∷ gs) where
+  insides : EachField (λ f. InRange f.kind) (f ∷ gs)
+  insides = subst (EachField (λ f. InRange f.kind)) e t.inside
+
+  pub ahead_here : InRange f.kind
+  ahead_here = insides.0
+
+  pub ahead_stop : {x : Option Found} → next_from (f ∷ gs) i ≡ x → x ≡ next_from (fields_from job at) line
+  ahead_stop q = sym q ∙ sym (ap (λ (hs : List Field). next_from hs i) e) ∙ t.same
+
+  pub ahead_on : {n : ℕ} → next_from (f ∷ gs) i ≡ next_from gs n → Ahead job at line gs n
+  ahead_on q = record { same = sym q ∙ sym (ap (λ (hs : List Field). next_from hs i) e) ∙ t.same; inside = insides.1 }
 
 -- ---- the lines of an output
 
@@ -84,13 +128,13 @@ drop_output (Register t r) s (suc i) h = absurd (omega arith)
 -- ---- reading on
 
 -- a line that was found and the lines after it
-unfoldable read_on : Found → (Cursor → List Line) → State → List Line
-read_on found.End rest s = []
-read_on (found.Line w c) rest s = line_of w s.dst s.registers ∷ rest c
+unfoldable read_on : Option Found → (Cursor → List Line) → State → List Line
+read_on None rest s = []
+read_on (Some f) rest s = line_of f.what s.dst s.registers ∷ rest f.after
 
 module _ (job : List ℕ) (s : State) where
   -- what was found, and the lines after it
-  abbrev reads : Found → List Line
+  abbrev reads : Option Found → List Line
   reads r = read_on r (λ d. lines_at job d s) s
 
   -- what is found of the fields from f on, where that is found of those after it
@@ -98,7 +142,7 @@ module _ (job : List ℕ) (s : State) where
   FoundFrom fs = (i : ℕ) → drop i (lines_from fs s) ≡ reads (next_from fs i)
 
   -- an output: one of its own lines, or one of those after it
-  found_output : (f : Field) (fs : List Field) (o : Output) → f.kind ≡ Prints o → FoundFrom fs
+  found_output : (f : Field) (fs : List Field) (o : Output) → f.kind ≡ Ok (Prints o) → FoundFrom fs
       → ((i : ℕ) → lines_at job (line_cursor f.place i) s ≡ drop i (lines_from (f ∷ fs) s)) → FoundFrom (f ∷ fs)
   unfolding lines_from field_lines read_on
   found_output f fs o q rest back i =
@@ -124,14 +168,14 @@ module _ (job : List ℕ) (s : State) where
       ∙ sym (ap reads (next_on f fs i o q m refl h)))
 
   found_field : (f : Field) (fs : List Field) → FoundFrom fs
-      → ((i : ℕ) → lines_at job (line_cursor f.place i) s ≡ drop i (lines_from (f ∷ fs) s)) → (k : Kind) → f.kind ≡ k → FoundFrom (f ∷ fs)
+      → ((i : ℕ) → lines_at job (line_cursor f.place i) s ≡ drop i (lines_from (f ∷ fs) s)) → (k : Result Kind Cause) → f.kind ≡ k → FoundFrom (f ∷ fs)
   unfolding lines_from field_lines next_from next_in
-  found_field f fs rest back Settings q i = rw q (rest i)
-  found_field f fs rest back (Issue t w) q i = rw q (rest i)
-  found_field f fs rest back (HandOver file) q i = rw q (rest i)
-  found_field f fs rest back (Writes x) q i = rw q (rest i)
-  found_field f fs rest back (Prints o) q i = found_output f fs o q rest back i
-  found_field f fs rest back (Wrong x) q i = rw q (rest i)
+  found_field f fs rest back (Ok Settings) q i = rw q (rest i)
+  found_field f fs rest back (Ok (Issue t w)) q i = rw q (rest i)
+  found_field f fs rest back (Ok (HandOver file)) q i = rw q (rest i)
+  found_field f fs rest back (Ok (Writes x)) q i = rw q (rest i)
+  found_field f fs rest back (Ok (Prints o)) q i = found_output f fs o q rest back i
+  found_field f fs rest back (Err x) q i = rw q (rest i)
 
   none : (at : ℕ) → length job ≤ at → FoundFrom (fields_from job at)
   unfolding lines_from read_on
@@ -160,11 +204,11 @@ module _ (job : List ℕ) (s : State) where
   read_on_lem c = go (length job) c.at (omega arith) c.line
 
   module _ (c : Cursor) where
-    pub at_line : (w : What) (d : Cursor) → next_line job c ≡ found.Line w d → lines_at job c s ≡ line_of w s.dst s.registers ∷ lines_at job d s
+    pub at_line : (f : Found) → next_line job c ≡ Some f → lines_at job c s ≡ line_of f.what s.dst s.registers ∷ lines_at job f.after s
     unfolding read_on
-    at_line w d e = read_on_lem c ∙ ap reads e
+    at_line f e = read_on_lem c ∙ ap reads e
 
-    pub at_end : next_line job c ≡ found.End → lines_at job c s ≡ []
+    pub at_end : next_line job c ≡ None → lines_at job c s ≡ []
     unfolding read_on
     at_end e = read_on_lem c ∙ ap reads e
 

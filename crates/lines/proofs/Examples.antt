@@ -1,6 +1,8 @@
 -- Document 01, "Numbers to check against": the two lines of the job program's example, the refused one, and rows of
 -- both widths, as texts. Assumes nothing.
 use mathlib.Core.Path.{◌≡◌, refl}
+use Rattle.std.specs.Prelude.{None, Some}
+use Rattle.std.specs.declared.option.Option.{Option}
 use mathlib.Core.List.{List, [], ◌∷◌, ◌++◌, flatten}
 use Prim.Native.Nat.{ℕ}
 use lib.ListN.{replicate, set}
@@ -17,7 +19,8 @@ use Rattle.job.specs.Settings.{slot_of, thread_right, settings_right}
 use Rattle.job.proofs.Examples.{worked}
 use Rattle.lines.specs.Cursor.{answered_cursor, line_cursor, next_in, next_from, next_line}
 use Rattle.lines.specs.declared.Cursor.{Cursor}
-use Rattle.lines.specs.declared.found.Found.TheVariants as found
+use Rattle.lines.specs.declared.found.Found.{Found}
+use Rattle.lines.specs.declared.found.What.{What}
 use Rattle.lines.specs.declared.found.What.TheVariants.{Row, Register}
 
 -- `finished 1`
@@ -74,18 +77,21 @@ outputs = 6 ∷ 3 ∷ 0 ∷ 7 ∷ 0 ∷ 2 ∷ 7 ∷ 2 ∷ 0 ∷ 0 ∷ 3 ∷ []
 abbrev cursor : ℕ → ℕ → Cursor
 cursor at i = line_cursor at i
 
+abbrev shown : What → Cursor → Option Found
+shown w c = Some (record { what = w; after = c })
+
 reads : (next_line outputs answered_cursor ∷ next_line outputs (cursor 0 1) ∷ next_line outputs (cursor 0 2) ∷ next_line outputs (cursor 6 1) ∷ [])
-    ≡ found.Line (Row Bits32 7) (cursor 0 1) ∷ found.Line (Row Bits32 8) (cursor 0 2) ∷ found.Line (Register 0 3) (cursor 6 1) ∷ found.End ∷ []
+    ≡ shown (Row Bits32 7) (cursor 0 1) ∷ shown (Row Bits32 8) (cursor 0 2) ∷ shown (Register 0 3) (cursor 6 1) ∷ None ∷ []
 unfolding next_line next_from next_in fields_from fields_up_to field_at job_width read_kind output_rows output_register
 reads = refl
 
 -- the paper's job has one line, at 180
-worked_line : next_line worked answered_cursor ≡ found.Line (Register 0 3) (cursor 180 1)
+worked_line : next_line worked answered_cursor ≡ shown (Register 0 3) (cursor 180 1)
 unfolding worked next_line next_from next_in fields_from fields_up_to field_at job_width read_kind settings_kind settings_right thread_right slot_of load_register issue output_register
 worked_line = refl
 
 -- with flags 0 instead of 1, and output rows 512 and 513 behind it, its next line is a row of the BF16 mode
-bf16_line : next_line (set worked 4 0 ++ 6 ∷ 3 ∷ 0 ∷ 0 ∷ 2 ∷ 2 ∷ []) (cursor 180 1) ≡ found.Line (Row Bits16 512) (cursor 185 1)
+bf16_line : next_line (set worked 4 0 ++ 6 ∷ 3 ∷ 0 ∷ 0 ∷ 2 ∷ 2 ∷ []) (cursor 180 1) ≡ shown (Row Bits16 512) (cursor 185 1)
 unfolding worked next_line next_from next_in fields_from fields_up_to field_at job_width read_kind output_rows output_register
 bf16_line = refl
 

@@ -1,4 +1,6 @@
 -- No text is cut: all that a run prints fits, so what a loop over the texts writes is, byte for byte, what the run prints. Assumes nothing.
+use Rattle.job.specs.declared.Cause.{Cause}
+use Rattle.std.specs.Prelude.{Result, Ok, Err}
 use mathlib.Core.Path.{◌≡◌, refl, ap, ◌∙◌}
 use mathlib.Core.List.{List, [], ◌∷◌, ◌++◌, map}
 use Prim.Native.Nat.{ℕ, zero, suc, ◌+◌, ◌≤◌}
@@ -18,16 +20,15 @@ use Rattle.job.specs.declared.Kind.TheVariants as kind
 use Rattle.job.specs.declared.Field.{Field}
 use Rattle.job.proofs.Shaped.{Sound, sound}
 use Rattle.run.specs.Run.{run_of, outcome_answer, run_answer}
-use Rattle.run.specs.declared.Outcome.{Outcome}
-use Rattle.run.specs.declared.Outcome.TheVariants.{Finished, Refused}
 use Rattle.run.proofs.SmallAnswers.{Small, run_small}
 use Rattle.lines.specs.Lines.{Line, row_lines, output_lines, field_lines, lines_from, lines_of}
 use Rattle.lines.specs.Text.{made, bytes_in, finished_text, bit_text, refused_text, word_finished, word_refused, word_at}
 use Rattle.lines.specs.Printed.{Printed, line, printed_by, printed_text, texts_of}
 use Rattle.lines.specs.Cursor.{start_cursor, loop_texts}
-use Rattle.lines.proofs.Texts.{made_holds, number_short, numbers_short, bit_short, row_short, value_short}
+use Rattle.lines.proofs.Writing.{made_holds, number_short, numbers_short, bit_short, row_short, value_short}
 use Rattle.lines.proofs.Cursors.{rows_few}
 use Rattle.lines.proofs.Giving.{written_all}
+use Rattle.word.specs.declared.Refused.{Refused}
 
 -- each text of a list fits
 abbrev Fit : List Printed → Type 0
@@ -58,14 +59,14 @@ unfolding output_lines printed_text
 fit_output (Rows w rows) s i = fit_rows w s.dst rows.first rows.count (omega (arith, i.inside, rows_few w))
 fit_output (Register t r) s i = (value_short t r (get_or s.registers (register t r) 0) (omega (arith, i.thread)) (omega (arith, i.register)), tt)
 
-fit_field : (k : Kind) (s : State) → InRange k → FitLines (field_lines k s)
+fit_field : (k : Result Kind Cause) (s : State) → InRange k → FitLines (field_lines k s)
 unfolding field_lines
-fit_field kind.Settings s i = tt
-fit_field (kind.Issue t w) s i = tt
-fit_field (kind.HandOver file) s i = tt
-fit_field (kind.Writes x) s i = tt
-fit_field (kind.Prints o) s i = fit_output o s i
-fit_field (kind.Wrong x) s i = tt
+fit_field (Ok kind.Settings) s i = tt
+fit_field (Ok (kind.Issue t w)) s i = tt
+fit_field (Ok (kind.HandOver file)) s i = tt
+fit_field (Ok (kind.Writes x)) s i = tt
+fit_field (Ok (kind.Prints o)) s i = fit_output o s i
+fit_field (Err x) s i = tt
 
 fit_lines : (job : List ℕ) (fs : List Field) (s : State) → EachField (Sound job) fs → FitLines (lines_from fs s)
 unfolding lines_from
@@ -74,11 +75,11 @@ fit_lines job (f ∷ fs) s w = fit_append (field_lines f.kind s) (lines_from fs 
 
 -- ---- a run
 
-fit_run : (job : List ℕ) (o : Outcome) (s : State) → Small (outcome_answer o) → Fit (printed_by job o s)
+fit_run : (job : List ℕ) (o : Result ℕ Refused) (s : State) → Small (outcome_answer o) → Fit (printed_by job o s)
 unfolding printed_by printed_text finished_text refused_text lines_of
-fit_run job (Finished n) s h = (number_short word_finished n (omega arith) (omega arith), fit_lines job (fields_from job 0) s (sound job 0))
-fit_run job (Refused r place) s h =
-    (numbers_short word_refused (number_of r) (omega (arith, tabled_byte (number_of r) h.0)) (omega arith) word_at place (omega (arith, h.1)) (omega arith) (bit_text (bit_of r)) (bit_short (bit_of r) (omega (arith, h.2.1))), tt)
+fit_run job (Ok n) s h = (number_short word_finished n (omega arith) (omega arith), fit_lines job (fields_from job 0) s (sound job 0))
+fit_run job (Err x) s h =
+    (numbers_short word_refused (number_of x.refusal) (omega (arith, tabled_byte (number_of x.refusal) h.0)) (omega arith) word_at x.place (omega (arith, h.1)) (omega arith) (bit_text (bit_of x.refusal)) (bit_short (bit_of x.refusal) (omega (arith, h.2.1))), tt)
 
 length_map : {A B : Type 0} (f : A → B) (l : List A) → length (map f l) ≡ length l
 length_map f [] = refl

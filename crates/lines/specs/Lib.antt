@@ -3,3 +3,4 @@ pub mod Lines
 pub mod Text
 pub mod Printed
 pub mod Cursor
+pub mod Left

@@ -1,6 +1,7 @@
 -- Document 01, "Numbers to check against": the printed lines: per output in file order, a row as D, its number and sixteen values, a register as G,
 -- thread, register and value. The values are read from the final state. Definitions only.
-use Rattle.std.specs.Prelude.{List, [], ◌∷◌, ◌++◌, ℕ, zero, suc, get_or}
+use Rattle.job.specs.declared.Cause.{Cause}
+use Rattle.std.specs.Prelude.{List, [], ◌∷◌, ◌++◌, ℕ, zero, suc, get_or, Result, Ok, Err}
 use Rattle.cells.specs.declared.Width.{Width}
 use Rattle.cells.specs.Layout.{column_count, register, cell}
 use Rattle.cells.specs.Places.{get_at}
@@ -33,13 +34,13 @@ output_lines (Rows w rows) s = row_lines w s.dst rows.first rows.count
 output_lines (Register t r) s = value t r (get_or s.registers (register t r) 0) ∷ []
 
 -- the lines of a field: outputs alone have some
-unfoldable pub field_lines : Kind → State → List Line
-field_lines kind.Settings s = []
-field_lines (kind.Issue t w) s = []
-field_lines (kind.HandOver file) s = []
-field_lines (kind.Writes x) s = []
-field_lines (kind.Prints o) s = output_lines o s
-field_lines (kind.Wrong x) s = []
+unfoldable pub field_lines : Result Kind Cause → State → List Line
+field_lines (Ok kind.Settings) s = []
+field_lines (Ok (kind.Issue t w)) s = []
+field_lines (Ok (kind.HandOver file)) s = []
+field_lines (Ok (kind.Writes x)) s = []
+field_lines (Ok (kind.Prints o)) s = output_lines o s
+field_lines (Err x) s = []
 
 -- field by field, in file order
 unfoldable pub lines_from : List Field → State → List Line

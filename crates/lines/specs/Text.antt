@@ -1,8 +1,7 @@
 -- Document 01, "Numbers to check against": a line and an answer as bytes: thread, register and row in decimal, values as eight lowercase
 -- hexadecimal digits, those of a row in the BF16 mode as four, single spaces, a newline at the end. A text is a hundred and sixty bytes, of
 -- which the first `len` count. Definitions only.
-use Rattle.std.specs.Prelude.{cond, ◌≡◌, List, [], ◌∷◌, ◌++◌, ℕ, zero, suc, ◌+◌, ◌/◌, ◌%◌, ◌≤◌, ltb, length, get_or, set, take, replicate}
-use Rattle.std.proofs.Math.Option.{Option, none, some}
+use Rattle.std.specs.Prelude.{cond, ◌≡◌, List, [], ◌∷◌, ◌++◌, ℕ, zero, suc, ◌+◌, ◌/◌, ◌%◌, ◌≤◌, ltb, length, get_or, set, take, replicate, Option, None, Some}
 use Rattle.cells.specs.Places.{digits_of}
 use Rattle.cells.specs.Layout.{column_count, register}
 use Rattle.lines.specs.Lines.{Line, row, value, columns}
@@ -101,17 +100,23 @@ line_of (what.Register t r) dst registers = value t r (get_or registers (registe
 
 -- ---- answers
 
+-- a word and a count
+abbrev pub count_text : List ℕ → ℕ → List ℕ
+count_text w n = w ++ decimal n ++ 10 ∷ []
+
+-- `finished 1`
 unfoldable pub finished_text : ℕ → List ℕ
-finished_text n = word_finished ++ decimal n ++ 10 ∷ []
+finished_text n = count_text word_finished n
 
 -- ` bit 16`, or nothing
 unfoldable pub bit_text : Option ℕ → List ℕ
-bit_text none = []
-bit_text (some i) = word_bit ++ decimal i
+bit_text None = []
+bit_text (Some i) = word_bit ++ decimal i
 
 -- `refused 8 at 180`; with a bit `refused 3 at 172 bit 16`
 unfoldable pub refused_text : ℕ → ℕ → Option ℕ → List ℕ
 refused_text n p i = word_refused ++ decimal n ++ word_at ++ decimal p ++ bit_text i ++ 10 ∷ []
 
+-- `passed 1`
 unfoldable pub passed_text : ℕ → List ℕ
-passed_text n = word_passed ++ decimal n ++ 10 ∷ []
+passed_text n = count_text word_passed n

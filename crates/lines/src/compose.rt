@@ -1,22 +1,12 @@
 // The texts of a line and of an answer.
-ghost use Rattle.std.specs.Prelude.{◌≡◌};
-ghost use Rattle.word.specs.Refusal.{number_of, bit_of, bit_by};
-ghost use Rattle.lines.specs.Text.{empty_text, wrote, made, Holds, text_of, line_of, finished_text, bit_text, refused_text, passed_text};
+ghost use Rattle.std.specs.Prelude.{◌≡◌, ◌≤◌, length};
+ghost use Rattle.word.specs.Refusal.{number_of, bit_of};
+ghost use Rattle.lines.specs.Text.{wrote, made, Holds, text_of, line_of, count_text, bit_text, refused_text};
 
 use crate::Text;
 use crate::found::What;
-use crate::write::{push, push_decimal, push_row, push_value, push_word};
 use cells::Width;
-use word::Refusal;
-
-pub(crate) fn empty() -> Text
-    ensures { result ≡ empty_text }
-{
-    Text {
-        bytes: [0; 160],
-        len: 0,
-    }
-}
+use word::Refused;
 
 // `D 7 00000000 ..`, in the BF16 mode `D 7 0000 ..`, or `G 0 3 00000009`, from the final state.
 pub(crate) fn line_text(what: What, dst: &[u32], registers: &[u32]) -> Text
@@ -25,51 +15,62 @@ pub(crate) fn line_text(what: What, dst: &[u32], registers: &[u32]) -> Text
 {
     match what {
         What::Row { width, row } => {
-            let t = push_decimal(push_word(empty(), b"D "), row as usize);
-            push(push_row(t, width, dst, row), 10)
+            let mut t = Text::new();
+            t.push_word(b"D ");
+            t.push_decimal(row as usize);
+            t.push_row(width, dst, row);
+            t.push(b'\n');
+            t
         }
         What::Register { thread, register } => {
-            let t = push_decimal(push_word(empty(), b"G "), thread as usize);
-            let u = push_decimal(push(t, 32), register as usize);
+            let mut t = Text::new();
+            t.push_word(b"G ");
+            t.push_decimal(thread as usize);
+            t.push(b' ');
+            t.push_decimal(register as usize);
             let at = cells::register_at(thread, register) as usize;
-            let v = cells::read(Width::Bits32, registers, at);
-            push(push_value(u, 8, v), 10)
+            t.push_value(8, cells::read(Width::Bits32, registers, at));
+            t.push(b'\n');
+            t
         }
     }
 }
 
-pub(crate) fn finished_text(count: usize) -> Text
-    ensures whole { result ≡ made (finished_text count) }
-    ensures first { Holds result (finished_text count) }
+// A word and a count: `finished 1`, `passed 1`.
+pub(crate) fn count_text(word: &[u8], count: usize) -> Text
+    requires { length word.now ≤ 20 }
+    ensures whole { result ≡ made (count_text word.now count) }
+    ensures first { Holds result (count_text word.now count) }
 {
-    push(push_decimal(push_word(empty(), b"finished "), count), 10)
-}
-
-// ` bit 16` of a refusal 3; of any other number nothing.
-fn push_bit(t: Text, number: u8, bit: u8) -> Text
-    ensures { result ≡ wrote t (bit_text (bit_by number bit)) }
-{
-    if number == 3 {
-        return push_decimal(push_word(t, b" bit "), bit as usize);
-    }
+    let mut t = Text::new();
+    t.push_word(word);
+    t.push_decimal(count);
+    t.push(b'\n');
     t
 }
 
-// `refused 8 at 180`, or `refused 3 at 172 bit 16`.
-pub(crate) fn refused_text(refusal: Refusal, place: usize) -> Text
-    ensures whole { result ≡ made (refused_text (number_of refusal) place (bit_of refusal)) }
-    ensures first { Holds result (refused_text (number_of refusal) place (bit_of refusal)) }
+// ` bit 16` of a refusal 3; of any other number nothing.
+fn push_bit(t: &mut Text, bit: Option<u8>)
+    ensures wrote { t.new ≡ wrote t.old (bit_text bit) }
+    ensures short { length (bit_text bit) ≤ 40 }
 {
-    let number = word::number(refusal);
-    let bit = word::bit(refusal);
-    let t = push_decimal(push_word(empty(), b"refused "), number as usize);
-    let placed = push_decimal(push_word(t, b" at "), place);
-    push(push_bit(placed, number, bit), 10)
+    if let Some(bit) = bit {
+        t.push_word(b" bit ");
+        t.push_decimal(usize::from(bit));
+    }
 }
 
-pub(crate) fn passed_text(count: usize) -> Text
-    ensures whole { result ≡ made (passed_text count) }
-    ensures first { Holds result (passed_text count) }
+// `refused 8 at 180`, or `refused 3 at 172 bit 16`.
+pub(crate) fn refused_text(refused: Refused) -> Text
+    ensures whole { result ≡ made (refused_text (number_of refused.refusal) refused.place (bit_of refused.refusal)) }
+    ensures first { Holds result (refused_text (number_of refused.refusal) refused.place (bit_of refused.refusal)) }
 {
-    push(push_decimal(push_word(empty(), b"passed "), count), 10)
+    let mut t = Text::new();
+    t.push_word(b"refused ");
+    t.push_decimal(usize::from(refused.refusal.number()));
+    t.push_word(b" at ");
+    t.push_decimal(refused.place);
+    push_bit(&mut t, refused.refusal.bit());
+    t.push(b'\n');
+    t
 }

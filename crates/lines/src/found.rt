@@ -1,11 +1,11 @@
 // Which line comes next.
 ghost use Rattle.std.specs.Prelude.{◌≡◌, ℕ, ◌+◌, ◌<◌};
 ghost use Rattle.job.specs.Range.{OutputIn};
-ghost use Rattle.lines.specs.Cursor.{line_count, what_at, next_line};
+ghost use Rattle.lines.specs.Cursor.{output_of, line_count, what_at, next_line};
 
 use crate::Cursor;
 use cells::Width;
-use job::{Kind, Output};
+use job::{Cause, Kind, Output};
 
 // What a line shows: a row of Dst with its width, or a register.
 #[derive(Clone, Copy)]
@@ -14,10 +14,21 @@ pub(crate) enum What {
     Register { thread: u8, register: u8 },
 }
 
+// What the next line shows, and the cursor after it.
 #[derive(Clone, Copy)]
-pub(crate) enum Found {
-    Line { what: What, after: Cursor },
-    End,
+pub(crate) struct Found {
+    pub what: What,
+    pub after: Cursor,
+}
+
+// The output that a field is, if it is one.
+fn output_of(kind: Result<Kind, Cause>) -> Option<Output>
+    ensures { result ≡ output_of kind }
+{
+    match kind {
+        Ok(Kind::Prints(output)) => Some(output),
+        _ => None,
+    }
 }
 
 fn line_count(output: Output) -> u32
@@ -45,37 +56,25 @@ fn what_at(output: Output, line: u32) -> What
     }
 }
 
-// The next line of the outputs, and the cursor after it.
-pub(crate) fn next_line(job: &[u8], from: Cursor) -> Found
+// The next line of the outputs.
+pub(crate) fn next_line(job: &[u8], from: Cursor) -> Option<Found>
     ensures { result ≡ next_line job.now from }
 {
-    let n = job.len();
-    let mut at = from.at;
     let mut line = from.line;
-    while at < n {
-        let f = job::field_at(job, at);
-        let kind = f.kind;
-        match kind {
-            Kind::Settings => {}
-            Kind::Issue { thread: _, word: _ } => {}
-            Kind::HandOver { file: _ } => {}
-            Kind::Writes(_) => {}
-            Kind::Prints(output) => {
-                let count = line_count(output);
-                if line < count {
-                    let what = what_at(output, line);
-                    let after = Cursor {
-                        answered: true,
-                        at: f.place,
-                        line: line + 1,
-                    };
-                    return Found::Line { what, after };
-                }
-                line -= count;
+    for f in job::each_field_from(job, from.at) {
+        if let Some(output) = output_of(f.kind) {
+            let count = line_count(output);
+            if line < count {
+                let what = what_at(output, line);
+                let after = Cursor {
+                    answered: true,
+                    at: f.place,
+                    line: line + 1,
+                };
+                return Some(Found { what, after });
             }
-            Kind::Wrong(_) => {}
+            line -= count;
         }
-        at = f.next;
     }
-    Found::End
+    None
 }

@@ -3,21 +3,21 @@
 
 mod compose;
 mod found;
+mod iterator;
 mod write;
 
-ghost use Rattle.std.specs.Prelude.{◌≡◌, true, false, List, ℕ};
+ghost use Rattle.std.specs.Prelude.{◌≡◌, true, false, List, ℕ, Ok};
 ghost use Rattle.cells.specs.State.{state};
-ghost use Rattle.run.specs.declared.Outcome.TheVariants as Outcome;
 ghost use Rattle.lines.specs.Text.{made, Holds};
 ghost use Rattle.lines.specs.Printed.{checked_text};
-ghost use Rattle.lines.specs.Cursor.{start_cursor, answered_cursor, next_line, next_end, line_next, next_of, Gives};
+ghost use Rattle.lines.specs.Cursor.{start_cursor, answered_cursor, next_line, line_next, next_of, Gives};
 
-use compose::{empty, finished_text, line_text, passed_text, refused_text};
-use found::{Found, next_line};
-use precheck::Checked;
-use run::Outcome;
+use compose::{count_text, line_text, refused_text};
+use found::next_line;
+pub use iterator::Texts;
+use word::Refused;
 
-// The first `len` bytes count.
+// The first `len` bytes count. A fixed array, as nothing here takes the heap; `next_of`, which `next_text` promises, names both.
 #[derive(Clone, Copy)]
 pub struct Text {
     pub bytes: [u8; 160],
@@ -32,10 +32,9 @@ pub struct Cursor {
     pub line: u32,
 }
 
-// A text and the cursor after it; at the end there is none, and the text is empty.
+// A text and the cursor after it.
 #[derive(Clone, Copy)]
 pub struct Next {
-    pub end: bool,
     pub text: Text,
     pub after: Cursor,
 }
@@ -50,76 +49,64 @@ pub fn start() -> Cursor
     }
 }
 
-// The next text of what a run with this outcome prints, and the cursor after it. Lines read the final Dst and registers.
-pub fn next_text(job: &[u8], outcome: Outcome, from: Cursor, dst: &[u32], registers: &[u32]) -> Next
+// The next text of what a run with this outcome prints, if any is left. Lines read the final Dst and registers.
+pub fn next_text(
+    job: &[u8],
+    outcome: Result<usize, Refused>,
+    from: Cursor,
+    dst: &[u32],
+    registers: &[u32],
+) -> Option<Next>
     ensures whole { result ≡ next_of job.now outcome from dst.now registers.now }
     ensures given { (a b : List ℕ) → Gives job.now outcome (state a b dst.now registers.now) from result }
 {
     match outcome {
-        Outcome::Finished(count) => {
+        Ok(count) => {
             if from.answered {
                 return line_after(job, from, dst, registers);
             }
-            answer(finished_text(count))
+            Some(answer(count_text(b"finished ", count)))
         }
-        Outcome::Refused(refusal, place) => {
+        Err(refused) => {
             if from.answered {
-                return end(from);
+                return None;
             }
-            answer(refused_text(refusal, place))
+            Some(answer(refused_text(refused)))
         }
     }
 }
 
 // `passed 1`, or the refusal: all that a pre-check prints.
-pub fn checked_text(checked: Checked) -> Text
+pub fn checked_text(checked: Result<usize, Refused>) -> Text
     ensures whole { result ≡ made (checked_text checked) }
     ensures first { Holds result (checked_text checked) }
 {
     match checked {
-        Checked::Passed(count) => passed_text(count),
-        Checked::Refused(refusal, place) => refused_text(refusal, place),
+        Ok(count) => count_text(b"passed ", count),
+        Err(refused) => refused_text(refused),
     }
 }
 
 // The answer's text; the lines come after it.
 fn answer(text: Text) -> Next
-    ensures { result ≡ record { end = false; text = text; after = answered_cursor } }
+    ensures { result ≡ record { text = text; after = answered_cursor } }
 {
     let after = Cursor {
         answered: true,
         at: 0,
         line: 0,
     };
-    Next {
-        end: false,
-        text,
-        after,
-    }
+    Next { text, after }
 }
 
-fn end(from: Cursor) -> Next
-    ensures { result ≡ next_end from }
-{
-    Next {
-        end: true,
-        text: empty(),
-        after: from,
-    }
-}
-
-fn line_after(job: &[u8], from: Cursor, dst: &[u32], registers: &[u32]) -> Next
-    ensures whole { result ≡ line_next from (next_line job.now from) dst.now registers.now }
+fn line_after(job: &[u8], from: Cursor, dst: &[u32], registers: &[u32]) -> Option<Next>
+    ensures whole { result ≡ line_next (next_line job.now from) dst.now registers.now }
     ensures given { from.answered ≡ true → (n : ℕ) (a b : List ℕ)
-        → Gives job.now (Outcome.Finished n) (state a b dst.now registers.now) from result }
+        → Gives job.now (Ok n) (state a b dst.now registers.now) from result }
 {
-    let found = next_line(job, from);
-    match found {
-        Found::Line { what, after } => Next {
-            end: false,
-            text: line_text(what, dst, registers),
-            after,
-        },
-        Found::End => end(from),
-    }
+    let found = next_line(job, from)?;
+    Some(Next {
+        text: line_text(found.what, dst, registers),
+        after: found.after,
+    })
 }

@@ -1,5 +1,5 @@
 -- A record's numbers part after part: where each part stands, and a walk that compares or writes one part after the other. Assumes nothing.
-use mathlib.Core.Path.{◌≡◌, refl, sym, ap, ap₂, ◌∙◌}
+use mathlib.Core.Path.{◌≡◌, refl, sym, ap, ap₂, subst, ◌∙◌}
 use mathlib.Core.Bool.{Bool, true, false, true≢false, ◌&&◌, and-true, and_assoc}
 use mathlib.Core.List.{List}
 use Prim.Native.Nat.{ℕ, zero, suc, ◌+◌, ◌-◌, ◌*◌, ◌/◌, ◌%◌, ◌<◌, ◌≤◌}
@@ -8,6 +8,10 @@ use native.Mathlib.Numerals.{add-one}
 use native.Mathlib.Omega.{arith}
 use lib.Dec.{eqb, ltb}
 use lib.ListN.{length, get_or, set, length-set}
+use lib.Seq.{paste}
+use borrow.Rule.Slice.PartMut.{put_mid}
+use Rattle.std.proofs.lemmas.Slice.{put_mid-paste}
+use Rattle.std.proofs.lemmas.List.Edits.{paste_none, paste_more}
 use borrow.Author.Tests.{ltb-true, ltb-false, lt-ltb, le-ltb, eq-eqb}
 use Rattle.cells.specs.Cells.{over, between, within}
 use Rattle.cells.specs.Tests.{below}
@@ -61,10 +65,6 @@ pub same_none : (b : ℕ) (f n : ℕ → ℕ) → Same b f n true 0
 same_none b f n = record { so_far = refl }
 
 module _ {b : ℕ} {f n : ℕ → ℕ} {all : Bool} {k : ℕ} where
-  -- and one more
-  pub same_one : {one : Bool} → Same b f n all k → one ≡ eqb (n (b + k)) (f k) → Same b f n (all && one) (k + 1)
-  same_one w q = record { so_far = rw (w.so_far, q, add-one) }
-
   -- and then a part of m, from place p on
   pub same_part : {part : Bool} {next : ℕ} (p m : ℕ) (g : ℕ → ℕ) → Same b f n all k → part ≡ same_from p m g n
       → p ≡ b + k → ((i : ℕ) → i < m → f (k + i) ≡ g i) → k + m ≡ next → Same b f n (all && part) next
@@ -87,9 +87,6 @@ same_first {n} b f {xs} r q e = same_list b r (same_none b f n) q (sym (add-zero
 -- all that is left
 pub same_rest : {b : ℕ} {f n : ℕ → ℕ} {all part : Bool} {k : ℕ} (m next : ℕ) → Same b f n all k → Same (b + k) (λ (i : ℕ). f (k + i)) n part m → k + m ≡ next → all && part ≡ same_from b next f n
 same_rest {b} {k = k} m next w v z = (same_part {next = next} (b + k) m _ w v.so_far refl (λ i h. refl) z).so_far
-
-pub same_end : {b : ℕ} {f n : ℕ → ℕ} {all : Bool} {k : ℕ} (m : ℕ) → Same b f n all k → k ≡ m → all ≡ same_from b m f n
-same_end {b} {f} {n} m w e = w.so_far ∙ ap (λ (k : ℕ). same_from b k f n) e
 
 pub same_all : (l : List ℕ) (c : Control) → same_from 0 record_length (number_at c) (number_from l) ≡ numbers_of l c
 unfolding numbers_of
@@ -119,6 +116,20 @@ module _ {b : ℕ} {f : ℕ → ℕ} {l₀ l : List ℕ} {k : ℕ} where
 
 pub put_end : {b : ℕ} {f : ℕ → ℕ} {l₀ l : List ℕ} {k : ℕ} (m : ℕ) → Put b f l₀ l k → k ≡ m → l ≡ over_from b m f l₀
 put_end {b} {f} {l₀} m w e = w.so_far ∙ ap (λ (k : ℕ). over_from b k f l₀) e
+
+-- the first k numbers of a list, copied from place b on
+copied : (b : ℕ) (part l : List ℕ) (k : ℕ) → k ≤ length part → b + length part ≤ length l → Put b (number_from part) l (paste l b part k) k
+copied b part l zero h g = subst (λ (x : List ℕ). Put b (number_from part) l x 0) (paste_none l b part) (put_none b (number_from part) l)
+copied b part l (suc k) h g =
+    let w = copied b part l k (omega arith) g in
+    let one : Put b (number_from part) l (paste l b part (k + 1)) (k + 1) =
+    subst (λ (x : List ℕ). Put b (number_from part) l x (k + 1)) (paste_more l b part k 0 (omega arith) (omega arith)) (put_one w refl (omega (arith, w.long)) refl) in
+    rw add-one at one
+
+-- a list copied into a part of another
+pub copied_all : (b m : ℕ) (l : List ℕ) {ys part : List ℕ} → ys ≡ part → m ≡ length part → b + length part ≤ length l → put_mid b m l ys ≡ over_from b (length part) (number_from part) l
+copied_all b m l {ys} {part} e q h =
+    put_mid-paste b m l ys part (length part) e (sym q) refl ∙ put_end (length part) (copied b part l (length part) (omega arith) h) refl
 
 -- ---- written but for the address slots' numbers
 

@@ -1,6 +1,6 @@
 -- What is read of a list: the record that it stands for, or one out of range. Assumes nothing.
-use mathlib.Core.Path.{◌≡◌, refl, sym, ◌∙◌}
-use mathlib.Core.Bool.{Bool, true, false, ◌&&◌, false≢true}
+use mathlib.Core.Path.{◌≡◌, refl, sym, ap, ◌∙◌}
+use mathlib.Core.Bool.{Bool, true, false, ◌&&◌, cond, and-false, false≢true}
 use mathlib.Core.List.{List}
 use Prim.Native.Nat.{ℕ, ◌+◌, ◌*◌}
 use native.Mathlib.Omega.{arith}
@@ -13,7 +13,9 @@ use Rattle.control.specs.Range.{slots_ok, threads_ok, in_range}
 use Rattle.control.specs.declared.Control.{Control}
 use Rattle.numbers.specs.Places.{banks_a, banks_b, last_row, shared_length, thread_length, record_length}
 use Rattle.numbers.specs.Lists.{shared_numbers, thread_number, number_at, same_from}
-use Rattle.numbers.specs.Record.{byte, settings_from, banks_from, thread_from, control_from, number_from, read_of, numbers_of, stands, no_record, record_of}
+use Rattle.numbers.specs.Record.{byte, settings_from, banks_from, thread_from, control_from, number_from, read_of, numbers_of, stands, no_record, record_read, record_of}
+use Rattle.numbers.proofs.Tested.{gives, gives_none, given, given_none}
+use Rattle.std.proofs.Common.{Some, None}
 use Rattle.numbers.proofs.Parts.{shared_at, thread_from_lem, same_part, same_first, same_all}
 
 module _ (l : List ℕ) where
@@ -42,9 +44,21 @@ module _ (l : List ℕ) where
   unfolding stands record_of
   reads_as long is h = is ∙ simp (eq-eqb _ _ long, h)
 
-  pub reads_none : length l ≡ record_length → numbers_of l (read_of l) ≡ false → no_record ≡ record_of l
-  unfolding stands record_of
-  reads_none long h = simp (eq-eqb _ _ long, h)
+  pub read_some : {c : Control} → length l ≡ record_length → true ≡ numbers_of l (read_of l) → c ≡ read_of l → Some c ≡ record_read l
+  unfolding stands
+  read_some long h is = gives is (λ i. sym (eq-eqb _ _ long) i && h i) refl
+
+  pub read_none : false ≡ numbers_of l (read_of l) → None ≡ record_read l
+  unfolding stands
+  read_none h = gives_none (read_of l) (sym (and-false (eqb (length l) record_length)) ∙ ap (λ (b : Bool). eqb (length l) record_length && b) h) refl
+
+  pub record_some : {c : Control} → Some c ≡ record_read l → c ≡ record_of l
+  unfolding record_of
+  record_some e = let g = given (read_of l) (stands l) e in g.1 ∙ sym (ap (λ (b : Bool). cond b (read_of l) no_record) g.0)
+
+  pub record_none : None ≡ record_read l → no_record ≡ record_of l
+  unfolding record_of
+  record_none e = sym (ap (λ (b : Bool). cond b (read_of l) no_record) (given_none (read_of l) (stands l) e))
 
 -- a list that stands for no record is refused
 none_refused : in_range no_record ≡ false

@@ -1,5 +1,5 @@
 -- The record that numbers stand for. Definitions only.
-use Rattle.std.specs.Prelude.{Bool, cond, ◌&&◌, List, ℕ, ◌+◌, ◌*◌, ◌%◌, eqb, length, get_or}
+use Rattle.std.specs.Prelude.{Bool, cond, Option, Some, None, ◌&&◌, List, ℕ, ◌+◌, ◌*◌, ◌%◌, eqb, length, get_or}
 use Rattle.cells.specs.Layout.{thread_count}
 use Rattle.cells.specs.Cells.{tabulate}
 use Rattle.cells.specs.Tests.{below}
@@ -10,7 +10,7 @@ use Rattle.control.specs.declared.Settings.{Settings}
 use Rattle.control.specs.declared.Banks.{Banks}
 use Rattle.control.specs.declared.Control.{Control}
 use Rattle.numbers.specs.Places.{own_length, slot_length, shared_length, thread_length, record_length, banks_a, banks_b, last_row}
-use Rattle.numbers.specs.Lists.{number_at}
+use Rattle.numbers.specs.Lists.{number_at, thread_number, same_from}
 
 -- numbers of 8 and of 16 bits, and a flag; `stands`, below, finds what does not fit
 abbrev pub byte : ℕ → ℕ
@@ -91,6 +91,14 @@ numbers_of l c = below (λ (p : ℕ). eqb (number_from l p) (number_at c p)) rec
 
 unfoldable pub stands : List ℕ → Bool
 stands l = eqb (length l) record_length && numbers_of l (read_of l)
+
+-- the record that a list stands for
+abbrev pub record_read : List ℕ → Option Control
+record_read l = cond (stands l) (Some (read_of l)) None
+
+-- the thread whose numbers stand from place b on
+abbrev pub thread_read : (ℕ → ℕ) → ℕ → Option Thread
+thread_read n b = cond (same_from b thread_length (thread_number (thread_from n b)) n) (Some (thread_from n b)) None
 
 -- for another length, a flag above 1 or a number too large for its place: a record out of range, which a step refuses with 1
 abbrev pub no_record : Control

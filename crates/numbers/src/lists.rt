@@ -30,11 +30,10 @@ pub(crate) fn shared_numbers(s: Settings, a: Banks, b: Banks, last: u8) -> [u32;
     ]
 }
 
-// A thread's own. The last fields come first: their bounds are found only where few facts stand before them.
+// A thread's own.
 pub(crate) fn own_numbers(x: Thread) -> [u32; OWN]
     ensures { result ≡ own_numbers x }
 {
-    let fidelity = x.fidelity as u32;
     [
         x.dst.at.0 as u32,
         x.dst.carry.0 as u32,
@@ -45,7 +44,7 @@ pub(crate) fn own_numbers(x: Thread) -> [u32; OWN]
         x.phase as u32,
         x.extra as u32,
         x.offset as u32,
-        fidelity,
+        x.fidelity as u32,
     ]
 }
 
@@ -75,9 +74,7 @@ fn put(n: &mut [u32], b: usize, part: &[u32])
     requires { b + length part.now ≤ length n.old }
     ensures { n.new ≡ over_from b (length part.now) (number_from part.now) n.old }
 {
-    for i in 0..part.len() {
-        n[b + i] = part[i];
-    }
+    n[b..b + part.len()].copy_from_slice(part);
 }
 
 // The numbers of a record but for its slots' over those of `n`; a slice of another length stays as it was.
@@ -87,18 +84,9 @@ pub fn write_but_slots(c: Control, n: &mut [u32])
     if n.len() != RECORD {
         return;
     }
-    let settings = c.settings;
-    let a = c.a;
-    let b = c.b;
-    let shared = shared_numbers(settings, a, b, c.last);
-    put(n, 0, &shared);
-    let x = c.threads[0];
-    let first = own_numbers(x);
-    put(n, THREAD_0, &first);
-    let y = c.threads[1];
-    let second = own_numbers(y);
-    put(n, THREAD_1, &second);
-    let z = c.threads[2];
-    let third = own_numbers(z);
-    put(n, THREAD_2, &third);
+    let [x, y, z] = c.threads;
+    put(n, 0, &shared_numbers(c.settings, c.a, c.b, c.last));
+    put(n, THREAD_0, &own_numbers(x));
+    put(n, THREAD_1, &own_numbers(y));
+    put(n, THREAD_2, &own_numbers(z));
 }

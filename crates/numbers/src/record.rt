@@ -1,16 +1,18 @@
 // The record that numbers stand for, part by part from place `b` on.
 ghost use Rattle.std.specs.Prelude.{◌≡◌, ◌+◌, ◌≤◌, length};
 ghost use Rattle.numbers.specs.Places.{settings_length, banks_length, own_length, slot_length, thread_length};
-ghost use Rattle.numbers.specs.Lists.{thread_number, same_from};
-ghost use Rattle.numbers.specs.Record.{settings_from, banks_from, slot_from, own_from, thread_from, number_from, no_record, record_of};
+ghost use Rattle.numbers.specs.Lists.{same_from};
+ghost use Rattle.numbers.specs.Record.{settings_from, banks_from, slot_from, own_from, number_from, thread_read, no_record, record_read, record_of};
 
 use crate::lists::{own_numbers, shared_numbers, slot_numbers};
 use crate::places::{BANKS_A, BANKS_B, LAST_ROW, OWN, RECORD, SLOT, THREAD_0, THREAD_1, THREAD_2};
+use cells::ByFile;
 use control::{
-    Banks, Control, Counter6, Counter10, Dst, DstStep, Keep, PhaseStep, SLOTS, Settings, Slot, Src,
+    Banks, Control, Counter6, Counter10, Dst, DstStep, PhaseStep, SLOTS, Settings, Slot, Src,
     SrcStep, Thread,
 };
 
+// Each part asks for its own length: `first_chunk` gives an array of that length, but behind an Option whose None would be a branch that never runs.
 fn read_settings(n: &[u32]) -> Settings
     requires { settings_length ≤ length n.now }
     ensures { result ≡ settings_from (number_from n.now) }
@@ -21,7 +23,7 @@ fn read_settings(n: &[u32]) -> Settings
         int8: n[2] == 1,
         fp16a: n[3] == 1,
         base: (n[4] % 65536) as u16,
-        keep: Keep {
+        keep: ByFile {
             a: n[5] == 1,
             b: n[6] == 1,
         },
@@ -102,78 +104,75 @@ fn stand(n: &[u32], b: usize, part: &[u32]) -> bool
     ensures { result ≡ same_from b (length part.now) (number_from part.now) (number_from n.now) }
 {
     let mut same = true;
-    for i in 0..part.len() {
-        same = same & (n[b + i] == part[i]);
+    for (i, number) in part.iter().enumerate() {
+        same &= n[b + i] == *number;
     }
     same
 }
 
-// A thread, and whether its numbers are those that it was read from.
-#[derive(Clone, Copy)]
-struct Found {
-    thread: Thread,
-    same: bool,
-}
-
-// Each slot is compared as it is read: the test is then on the numbers alone, and nothing is looked up in the record.
-fn read_thread(n: &[u32], b: usize) -> Found
+// The thread whose numbers stand from place `b` on. Each slot is compared as it is read: the test is then on the numbers alone, and nothing is looked up in
+// the record.
+fn read_thread(n: &[u32], b: usize) -> Option<Thread>
     requires { b + thread_length ≤ length n.now }
-    ensures { (result.thread ≡ thread_from (number_from n.now) b)
-        × (result.same ≡ same_from b thread_length (thread_number (thread_from (number_from n.now) b)) (number_from n.now)) }
+    ensures { result ≡ thread_read (number_from n.now) b }
 {
     let mut slots = [control::zero_slot(); SLOTS];
     let mut same = true;
-    let first = b + OWN;
-    for s in 0..SLOTS {
-        let p = first + SLOT * s;
-        let slot = read_slot(n, p);
-        let numbers = slot_numbers(slot);
-        same = same & stand(n, p, &numbers);
-        slots[s] = slot;
+    for (s, slot) in slots.iter_mut().enumerate() {
+        let p = b + OWN + SLOT * s;
+        let read = read_slot(n, p);
+        same &= stand(n, p, &slot_numbers(read));
+        *slot = read;
     }
     let thread = read_own(n, b, slots);
-    let own = own_numbers(thread);
-    same = stand(n, b, &own) & same;
-    Found { thread, same }
+    if stand(n, b, &own_numbers(thread)) & same {
+        Some(thread)
+    } else {
+        None
+    }
 }
 
 // A record out of range.
 fn no_record() -> Control
     ensures { result ≡ no_record }
 {
-    let mut c = control::start_record();
-    c.last = 1;
-    c
+    Control {
+        last: 1,
+        ..control::start_record()
+    }
+}
+
+fn read_record(n: &[u32]) -> Option<Control>
+    ensures { result ≡ record_read n.now }
+{
+    if n.len() != RECORD {
+        return None;
+    }
+    let settings = read_settings(n);
+    let a = read_banks(n, BANKS_A);
+    let b = read_banks(n, BANKS_B);
+    let last = (n[LAST_ROW] % 256) as u8;
+    if !stand(n, 0, &shared_numbers(settings, a, b, last)) {
+        return None;
+    }
+    let x = read_thread(n, THREAD_0)?;
+    let y = read_thread(n, THREAD_1)?;
+    let z = read_thread(n, THREAD_2)?;
+    Some(Control {
+        settings,
+        threads: [x, y, z],
+        a,
+        b,
+        last,
+    })
 }
 
 // The record that the numbers stand for, else one out of range.
 pub fn read(n: &[u32]) -> Control
     ensures { result ≡ record_of n.now }
 {
-    if n.len() != RECORD {
-        return no_record();
+    match read_record(n) {
+        Some(c) => c,
+        None => no_record(),
     }
-    let settings = read_settings(n);
-    let a = read_banks(n, BANKS_A);
-    let b = read_banks(n, BANKS_B);
-    let last = (n[LAST_ROW] % 256) as u8;
-    let shared = shared_numbers(settings, a, b, last);
-    let same = stand(n, 0, &shared);
-    let x = read_thread(n, THREAD_0);
-    let y = read_thread(n, THREAD_1);
-    let z = read_thread(n, THREAD_2);
-    if same & x.same & y.same & z.same {
-        let first = x.thread;
-        let second = y.thread;
-        let third = z.thread;
-        let threads = [first, second, third];
-        return Control {
-            settings,
-            threads,
-            a,
-            b,
-            last,
-        };
-    }
-    no_record()
 }

@@ -9,7 +9,7 @@ use Rattle.cells.specs.declared.layout.Span.{Span}
 use Rattle.cells.specs.Layout.{no_span, span, bank_span, one_register, register}
 use Rattle.cells.specs.Cells.{over, within, over_span}
 use Rattle.cells.proofs.Cells.{split, over_between_none}
-use Rattle.word.specs.declared.Clear.{Clear}
+use Rattle.cells.specs.declared.layout.ByFile.{ByFile}
 use Rattle.word.specs.declared.Scalar.{Scalar}
 use Rattle.control.specs.declared.Banks.{Banks}
 use Rattle.control.specs.declared.Control.{Control}
@@ -93,8 +93,8 @@ module _ (m : Marks) where
       ∙ (λ i. marks (over_span u.a false (none_marked true m.srca i)) (over_span u.b false (none_marked true m.srcb i)) m.dst (none_marked true m.registers i))
 
   -- the clear being a field of the word
-  pub cleared_by : (c : Control) {f g : Clear} → f ≡ g → {n : Marks} → n ≡ instruction_marks m no_sets (clear_unsets c f) → n ≡ instruction_marks m no_sets (clear_unsets c g)
-  cleared_by c e en = en ∙ ap (λ (f : Clear). instruction_marks m no_sets (clear_unsets c f)) e
+  pub cleared_by : (c : Control) {f g : ByFile Bool} → f ≡ g → {n : Marks} → n ≡ instruction_marks m no_sets (clear_unsets c f) → n ≡ instruction_marks m no_sets (clear_unsets c g)
+  cleared_by c e en = en ∙ ap (λ (f : ByFile Bool). instruction_marks m no_sets (clear_unsets c f)) e
 
   -- rows set, x and y being the spans, and no clear
   pub rows_marked : (s z : Span) {x y : Span} → x ≡ s → y ≡ z → {a b : List Bool} → a ≡ over_span x true m.srca → b ≡ over_span y true m.srcb

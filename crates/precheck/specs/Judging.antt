@@ -1,6 +1,6 @@
 -- Document 01, "The job", "Set and unset" and "Numbers given back": which rules 2 to 8 a field breaks, judged on the control record and the
 -- marks and on no lent number. Definitions only.
-use Rattle.std.specs.Prelude.{Bool, not, List, [], ◌∷◌, ◌++◌, ℕ}
+use Rattle.std.specs.Prelude.{Bool, not, List, [], ◌∷◌, ◌++◌, ℕ, Result, Ok, Err}
 use Rattle.cells.specs.declared.layout.File.{File}
 use Rattle.cells.specs.Layout.{one_register}
 use Rattle.word.specs.Word.{word_operands}
@@ -9,6 +9,7 @@ use Rattle.control.specs.declared.Control.{Control}
 use Rattle.control.specs.Record.{matrix_owns_next}
 use Rattle.rules.specs.Rules.{Judged, ◌when◌, rules}
 use Rattle.rules.specs.Access.{reads_of}
+use Rattle.job.specs.declared.Cause.{Cause}
 use Rattle.job.specs.declared.Write.{Write}
 use Rattle.job.specs.declared.Write.TheVariants.{LoadSrc, LoadDst, LoadRegister, ZeroRows}
 use Rattle.job.specs.declared.Output.{Output}
@@ -38,10 +39,10 @@ abbrev pub unset_read : Control → Marks → ℕ → ℕ → Bool
 unset_read c m t w = not (reads_set m (reads_of c t (word_operands w)))
 
 -- the rules that a field may break, in the order in which they are judged
-unfoldable pub field_rules : Control → Marks → Kind → List Judged
-field_rules c m kind.Settings = []
-field_rules c m (kind.Issue t w) = rules c t w ++ ((UnsetRead when unset_read c m t w) ∷ [])
-field_rules c m (kind.HandOver file) = unpackers_bank c file
-field_rules c m (kind.Writes x) = write_rules c x
-field_rules c m (kind.Prints o) = output_rules m o
-field_rules c m (kind.Wrong x) = []
+unfoldable pub field_rules : Control → Marks → Result Kind Cause → List Judged
+field_rules c m (Ok kind.Settings) = []
+field_rules c m (Ok (kind.Issue t w)) = rules c t w ++ ((UnsetRead when unset_read c m t w) ∷ [])
+field_rules c m (Ok (kind.HandOver file)) = unpackers_bank c file
+field_rules c m (Ok (kind.Writes x)) = write_rules c x
+field_rules c m (Ok (kind.Prints o)) = output_rules m o
+field_rules c m (Err x) = []

@@ -10,7 +10,6 @@ ghost use Rattle.precheck.specs.Instruction.{InstructionChecked};
 use crate::marking::{all_set, is_set, mark_span, set_one, unset_cleared};
 use cells::{REGISTERS, SRC_ROWS};
 use control::Core;
-use rules::Verdict;
 use word::{
     LegacyWord, MultiplyWord, Operands, Refusal, ScalarWord, SetCountersWord, ShiftAWord,
     ShiftBWord, ZeroSrcWord,
@@ -23,143 +22,90 @@ fn check_multiply(
     srca: &mut [bool],
     srcb: &mut [bool],
     dst: &[bool],
-) -> Verdict
+) -> Result<(), Refusal>
     ensures { (s : ℕ → Choice) (r : List Bool) → InstructionChecked (joined k s) (marks srca.old srcb.old dst.now r) thread
         (operands.Multiply w) result (marks srca.new srcb.new dst.now r) }
 {
-    let verdict = rules::multiply::judge_multiply(k, thread, w);
-    let Verdict::Done = verdict else {
-        return verdict;
-    };
+    rules::multiply::judge_multiply(k, thread, w)?;
     let reads = rules::multiply::multiply_reads(k, thread, w);
-    let rows_a = reads.a;
-    let rows_b = reads.b;
-    let rows_d = reads.dst;
-    if all_set(srca, rows_a) & all_set(srcb, rows_b) & all_set(dst, rows_d) {
-        let a = k.a;
-        let b = k.b;
-        let clear = w.fields().clear;
-        unset_cleared(
-            a,
-            b,
-            clear,
-            k.settings.keep.a,
-            k.settings.keep.b,
-            srca,
-            srcb,
-        );
-        return Verdict::Done;
+    if all_set(srca, reads.a) & all_set(srcb, reads.b) & all_set(dst, reads.dst) {
+        unset_cleared(k, w.fields().clear, srca, srcb);
+        return Ok(());
     }
-    Verdict::Refused(Refusal::UnsetRead)
+    Err(Refusal::UnsetRead)
 }
 
-fn check_legacy(k: Core, w: LegacyWord, srca: &mut [bool], srcb: &mut [bool]) -> Verdict
+fn check_legacy(k: Core, w: LegacyWord, srca: &mut [bool], srcb: &mut [bool]) -> Result<(), Refusal>
     ensures { (s : ℕ → Choice) (t : ℕ) (d r : List Bool) → InstructionChecked (joined k s) (marks srca.old srcb.old d r) t
         (operands.Legacy w) result (marks srca.new srcb.new d r) }
 {
-    let verdict = rules::legacy::judge_legacy(k);
-    let Verdict::Done = verdict else {
-        return verdict;
-    };
-    let a = k.a;
-    let b = k.b;
-    let clear = w.fields().clear;
-    unset_cleared(
-        a,
-        b,
-        clear,
-        k.settings.keep.a,
-        k.settings.keep.b,
-        srca,
-        srcb,
-    );
-    Verdict::Done
+    rules::legacy::judge_legacy(k)?;
+    unset_cleared(k, w.fields().clear, srca, srcb);
+    Ok(())
 }
 
-fn check_set(k: Core, w: SetCountersWord, srca: &mut [bool], srcb: &mut [bool]) -> Verdict
+fn check_set(
+    k: Core,
+    w: SetCountersWord,
+    srca: &mut [bool],
+    srcb: &mut [bool],
+) -> Result<(), Refusal>
     ensures { (s : ℕ → Choice) (t : ℕ) (d r : List Bool) → InstructionChecked (joined k s) (marks srca.old srcb.old d r) t
         (operands.SetCounters w) result (marks srca.new srcb.new d r) }
 {
     let x = w.fields();
-    let verdict = rules::counters::judge_counters(x.mode);
-    let Verdict::Done = verdict else {
-        return verdict;
-    };
-    let a = k.a;
-    let b = k.b;
-    let clear = x.clear;
-    unset_cleared(
-        a,
-        b,
-        clear,
-        k.settings.keep.a,
-        k.settings.keep.b,
-        srca,
-        srcb,
-    );
-    Verdict::Done
+    rules::counters::judge_counters(x.mode)?;
+    unset_cleared(k, x.clear, srca, srcb);
+    Ok(())
 }
 
-fn check_zero(k: Core, w: ZeroSrcWord, srca: &mut [bool], srcb: &mut [bool]) -> Verdict
+fn check_zero(k: Core, w: ZeroSrcWord, srca: &mut [bool], srcb: &mut [bool]) -> Result<(), Refusal>
     ensures { (s : ℕ → Choice) (t : ℕ) (d r : List Bool) → InstructionChecked (joined k s) (marks srca.old srcb.old d r) t
         (operands.ZeroSrc w) result (marks srca.new srcb.new d r) }
 {
     let z = w.fields();
-    mark_span(rules::zero_src::filled_a(k, z), true, srca);
-    mark_span(rules::zero_src::filled_b(k, z), true, srcb);
-    Verdict::Done
+    mark_span(rules::zero_src::filled_if(z.a, k.a, z), true, srca);
+    mark_span(rules::zero_src::filled_if(z.b, k.b, z), true, srcb);
+    Ok(())
 }
 
-fn check_shift_a(k: Core, w: ShiftAWord, srca: &mut [bool]) -> Verdict
+fn check_shift_a(k: Core, w: ShiftAWord, srca: &mut [bool]) -> Result<(), Refusal>
     ensures { (s : ℕ → Choice) (t : ℕ) (b d r : List Bool) → InstructionChecked (joined k s) (marks srca.old b d r) t
         (operands.ShiftA w) result (marks srca.new b d r) }
 {
-    let verdict = rules::shifts::judge_shift_a(k, w);
-    let Verdict::Done = verdict else {
-        return verdict;
-    };
-    let reads = rules::shifts::shift_a_reads(k);
-    let rows = reads.a;
-    if all_set(srca, rows) {
+    rules::shifts::judge_shift_a(k, w)?;
+    if all_set(srca, rules::shifts::shift_a_reads(k).a) {
         mark_span(rules::shifts::shifted_a(k), true, srca);
-        return Verdict::Done;
+        return Ok(());
     }
-    Verdict::Refused(Refusal::UnsetRead)
+    Err(Refusal::UnsetRead)
 }
 
-fn check_shift_b(k: Core, thread: u8, w: ShiftBWord, srcb: &[bool]) -> Verdict
+fn check_shift_b(k: Core, thread: u8, w: ShiftBWord, srcb: &[bool]) -> Result<(), Refusal>
     ensures { (s : ℕ → Choice) (a d r : List Bool) → InstructionChecked (joined k s) (marks a srcb.now d r) thread
         (operands.ShiftB w) result (marks a srcb.now d r) }
 {
-    let verdict = rules::shifts::judge_shift_b(k);
-    let Verdict::Done = verdict else {
-        return verdict;
-    };
-    let reads = rules::shifts::shift_b_reads(k, thread, w);
-    let rows = reads.b;
-    if all_set(srcb, rows) {
-        return Verdict::Done;
+    rules::shifts::judge_shift_b(k)?;
+    if all_set(srcb, rules::shifts::shift_b_reads(k, thread, w).b) {
+        return Ok(());
     }
-    Verdict::Refused(Refusal::UnsetRead)
+    Err(Refusal::UnsetRead)
 }
 
 // Under any record. The registers are tested where they stand.
-fn check_scalar(thread: u8, w: ScalarWord, registers: &mut [bool]) -> Verdict
+fn check_scalar(thread: u8, w: ScalarWord, registers: &mut [bool]) -> Result<(), Refusal>
     ensures { (c : Control) (a b d : List Bool) → InstructionChecked c (marks a b d registers.old) thread
         (operands.Scalar w) result (marks a b d registers.new) }
 {
-    let verdict = rules::scalar::judge_scalar(w);
-    let Verdict::Done = verdict else {
-        return verdict;
-    };
+    rules::scalar::judge_scalar(w)?;
     let x = w.fields();
     let left = is_set(registers, cells::register_at(thread, x.a));
     let right = x.constant | is_set(registers, cells::register_at(thread, x.b));
     if left & right {
         set_one(cells::register_at(thread, x.result), registers);
-        return Verdict::Done;
+        return Ok(());
     }
-    Verdict::Refused(Refusal::UnsetRead)
+    Err(Refusal::UnsetRead)
 }
 
 pub(crate) fn check_operands(
@@ -170,7 +116,7 @@ pub(crate) fn check_operands(
     srcb: &mut [bool; SRC_ROWS as usize],
     dst: &[bool],
     registers: &mut [bool; REGISTERS],
-) -> Verdict
+) -> Result<(), Refusal>
     ensures { (s : ℕ → Choice) → InstructionChecked (joined k s) (marks srca.old srcb.old dst.now registers.old) thread
         f result (marks srca.new srcb.new dst.now registers.new) }
 {
@@ -182,7 +128,7 @@ pub(crate) fn check_operands(
         Operands::ZeroSrc(w) => check_zero(k, w, srca, srcb),
         Operands::ShiftA(w) => check_shift_a(k, w, srca),
         Operands::ShiftB(w) => check_shift_b(k, thread, w, srcb),
-        Operands::NoEffect => Verdict::Done,
+        Operands::NoEffect => Ok(()),
         Operands::Scalar(w) => check_scalar(thread, w, registers),
     }
 }

@@ -1,13 +1,17 @@
 -- The slices of a file, number by number. Assumes nothing.
-use mathlib.Core.Path.{◌≡◌, sym, ◌∙◌}
+use mathlib.Core.Path.{◌≡◌, sym, ◌∙◌, subst}
+use mathlib.Core.Logic.{◌≢◌}
+use mathlib.Core.Bool.{Bool, true, ◌&&◌}
 use mathlib.Core.List.{List}
 use Prim.Native.Nat.{ℕ, ◌+◌, ◌*◌, ◌<◌}
 use native.Mathlib.Omega.{arith}
-use lib.ListN.{length, get_or}
+use lib.ListN.{length, get_or, set}
+use Rattle.std.proofs.Common.{below_more}
+use Rattle.std.proofs.lemmas.List.{get_or-set_other, get_or-set_same}
 use lib.Seq.{ext_get_or}
 use lib.Ieee.{Float, nan}
 use Rattle.cells.specs.declared.layout.File.{File}
-use Rattle.cells.proofs.Cells.{length_over, over_in, between_in}
+use Rattle.cells.proofs.Cells.{both, length_over, over_in, between_in}
 use Rattle.product.specs.Product.{phase_slice}
 use Rattle.product.specs.Sums.{slices_of}
 
@@ -31,3 +35,23 @@ module _ (file : File) (format phase : ℕ) (src : List ℕ) (first : ℕ) where
       (λ p h.
       let b : p < length l = rw slices_length at h in
       slice_at l p b ∙ sym (slice_at out p (omega arith)))
+
+  -- a list of these slices
+  pub made : (l out : List Float) → length l ≡ length out → ((p : ℕ) → p < length l → get_or l p nan ≡ number p) → l ≡ slices_of file format phase src first out
+  made l out e h = ext_get_or nan _ _ (e ∙ sym (slices_length out)) (λ p b. h p b ∙ sym (slice_at out p (omega arith)))
+
+-- ---- a loop that makes a slice of each number, and a test of it
+
+-- before place n each slice and its test are as P says, and where `all` holds each test does
+abbrev pub Each : (ℕ → Float → Bool → Type 0) → List Float → Bool → ℕ → Type 0
+Each P out all n = (k : ℕ) → k < n → (known : Bool) × P k (get_or out k nan) known × (all ≡ true → known ≡ true)
+
+pub each_more : (P : ℕ → Float → Bool → Type 0) (out : List Float) (all : Bool) (i : ℕ) (y : Float) (b : Bool) → Each P out all i → i < length out → P i y b
+    → Each P (set out i y) (all && b) (i + 1)
+each_more P out all i y b e l new =
+    below_more (λ k. (known : Bool) × P k (get_or (set out i y) k nan) known × ((all && b) ≡ true → known ≡ true)) i
+    (λ k h.
+    let o = e k h in
+    let ne : k ≢ i = omega arith in
+    (o.0, subst (λ (z : Float). P k z o.0) (sym (get_or-set_other out i k y nan ne)) o.1, λ t. o.2 (both all b t).0))
+    (b, subst (λ (z : Float). P i z b) (sym (get_or-set_same out i y nan l)) new, λ t. (both all b t).1)

@@ -1,9 +1,10 @@
 -- What an instruction keeps of the control record: asked of each change once, whatever instructions make it. Assumes nothing.
+use Rattle.std.specs.Prelude.{Bool}
 use mathlib.Core.Path.{◌≡◌, refl}
 use mathlib.Core.Bool.{true}
 use Prim.Native.Nat.{ℕ}
 use lib.Bits.{bit_and}
-use Rattle.word.specs.declared.Clear.{Clear}
+use Rattle.cells.specs.declared.layout.ByFile.{ByFile}
 use Rattle.word.specs.declared.Which.{Which}
 use Rattle.word.specs.declared.Operands.{Operands}
 use Rattle.control.specs.declared.Control.{Control}
@@ -18,7 +19,7 @@ use Rattle.rules.specs.After.{moved, last_by, record_after, acting, control_afte
 
 -- a clear, a slot, a last SrcA row, SETRWC and INCRWC keep P
 pub record Keeps (P : Control → Type 0) : Type 0 where
-  pub clear : (c : Control) (f : Clear) → P c → P (clear_banks c f)
+  pub clear : (c : Control) (f : ByFile Bool) → P c → P (clear_banks c f)
   pub slot : (c : Control) (t n : ℕ) → P c → P (move_on c t n)
   pub last : (c : Control) (n : ℕ) → P c → P (with_last c (bit_and n 0x30))
   pub set : (c : Control) (t : ℕ) (which : Which) (d b a : ℕ) → P c → P (set_counters c t which d b a)
@@ -69,7 +70,7 @@ record_after_settings c t f = record_after_keeps (Same c) (settings_keeps c) c t
 
 -- ---- the last SrcA row after it
 
-move_last : (m : Move) (c : Control) (f : Clear) (t : ℕ) → (moved m (clear_banks c f) t).last ≡ last_by m (row_a c t) c.last
+move_last : (m : Move) (c : Control) (f : ByFile Bool) (t : ℕ) → (moved m (clear_banks c f) t).last ≡ last_by m (row_a c t) c.last
 unfolding clear_banks move_on set_counters add_counters row_a
 move_last Stay c f t = refl
 move_last (Slot n) c f t = refl

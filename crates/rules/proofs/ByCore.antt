@@ -1,9 +1,10 @@
 -- What an instruction makes of the core of a record, joined with any address slots, is what it makes of the record. Assumes nothing.
+use Rattle.std.specs.Prelude.{Bool}
 use mathlib.Core.Path.{◌≡◌, refl, sym, ap, ◌∙◌}
 use mathlib.Core.Bool.{true, false≢true}
 use Prim.Native.Nat.{ℕ, ◌+◌, ◌%◌}
 use Rattle.cells.specs.Layout.{bank_rows}
-use Rattle.word.specs.declared.Clear.{Clear}
+use Rattle.cells.specs.declared.layout.ByFile.{ByFile}
 use Rattle.word.specs.declared.Height.{Height}
 use Rattle.word.specs.declared.Operands.{Operands}
 use Rattle.word.specs.declared.Operands.TheVariants as operands
@@ -46,7 +47,7 @@ module _ (k : Core) (s : ℕ → Choice) (t : ℕ) {x : Own} (e : x ≡ own_at k
 
 module _ (k : Core) (s : ℕ → Choice) (t : ℕ) (slot : Slot) (o : Own) where
   -- around a thread that is changed: the clear, and the last row
-  around : (f : Clear) (last : ℕ) {c : Control} → joined (with_own k t o) s ≡ c → joined (core_with k t o f last) s ≡ with_last (clear_banks c f) last
+  around : (f : ByFile Bool) (last : ℕ) {c : Control} → joined (with_own k t o) s ≡ c → joined (core_with k t o f last) s ≡ with_last (clear_banks c f) last
   unfolding joined clear_banks
   around f last e = ap (λ (c : Control). with_last (clear_banks c f) last) e
 
@@ -57,7 +58,7 @@ module _ (k : Core) (s : ℕ → Choice) (t : ℕ) (slot : Slot) (o : Own) where
       put_joined k s t o (λ (x : Thread). apply_slot x slot) eo
       ∙ ap (λ (z : Slot). with_thread (joined k s) t (apply_slot (thread_at (joined k s) t) z)) es
 
-  move_by : (m : move.Move) (f : Clear) → slot ≡ slot_used (thread_at (joined k s) t) (slot_in m)
+  move_by : (m : move.Move) (f : ByFile Bool) → slot ≡ slot_used (thread_at (joined k s) t) (slot_in m)
       → ((h : Choice) → thread_of o h ≡ thread_by m slot (thread_of (own_at k t) h))
       → joined (core_with k t o f (last_by m (counted_a (own_at k t)) k.last)) s ≡ moved m (clear_banks (joined k s) f) t
   unfolding joined clear_banks move_on set_counters add_counters row_a
@@ -78,7 +79,7 @@ module _ (k : Core) (s : ℕ → Choice) (t : ℕ) (slot : Slot) (o : Own) where
 -- the same of the code's own slot, numbers of the thread before and after it, files to clear, last row, and core
 pub after_parts : (k : Core) (s : ℕ → Choice) (t : ℕ) (f : Operands) {slot : Slot} → slot ≡ slot_used (thread_at (joined k s) t) (slot_number f)
     → {x : Own} → x ≡ own_at k t → {o : Own} → ((h : Choice) → thread_of o h ≡ thread_by (meaning_of f).move slot (thread_of x h))
-    → {clear : Clear} → clear ≡ (meaning_of f).clear → {last : ℕ} → last ≡ last_by (meaning_of f).move (counted_a x) k.last
+    → {clear : ByFile Bool} → clear ≡ (meaning_of f).clear → {last : ℕ} → last ≡ last_by (meaning_of f).move (counted_a x) k.last
     → {r : Core} → r ≡ core_with k t o clear last → joined r s ≡ record_after (joined k s) t f
 after_parts k s t f {slot} es ex {o} eo {clear} ef {last} el er =
     ap (λ (r : Core). joined r s) er

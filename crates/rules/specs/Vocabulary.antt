@@ -3,7 +3,7 @@
 use Rattle.std.specs.Prelude.{Bool, true, false, ℕ}
 use Rattle.cells.specs.declared.layout.Span.{Span}
 use Rattle.cells.specs.Layout.{no_span}
-use Rattle.word.specs.declared.Clear.{Clear}
+use Rattle.cells.specs.declared.layout.ByFile.{ByFile}
 use Rattle.word.specs.declared.Height.{Height}
 use Rattle.word.specs.declared.SetCounters.{SetCounters}
 use Rattle.word.specs.declared.AddCounters.{AddCounters}
@@ -55,7 +55,7 @@ pub record Meaning : Type 0 where
   pub reads : Control → ℕ → Reads
   pub sets : Control → ℕ → Sets
   -- the files that it clears: of each, the bank at the matrix pointer is given back and unset, or kept, as the file's switch says
-  pub clear : Clear
+  pub clear : ByFile Bool
   -- what else becomes of the record, after the clear
   pub move : Move
 
@@ -67,7 +67,7 @@ no_reads = record { a = no_span; b = no_span; dst = no_span; rega = no_span; reg
 abbrev pub no_sets : Sets
 no_sets = record { a = no_span; b = no_span; registers = no_span }
 
-abbrev pub no_clear : Clear
+abbrev pub no_clear : ByFile Bool
 no_clear = record { a = false; b = false }
 
 -- an instruction of which nothing is said
@@ -114,7 +114,7 @@ abbrev pub setting : (Control → ℕ → Sets) → Meaning → Meaning
 setting x m =
     record { undefined = m.undefined; modelled = m.modelled; needs = m.needs; dst = m.dst; reads = m.reads; sets = x; clear = m.clear; move = m.move }
 
-abbrev pub clearing : Clear → Meaning → Meaning
+abbrev pub clearing : ByFile Bool → Meaning → Meaning
 clearing x m =
     record { undefined = m.undefined; modelled = m.modelled; needs = m.needs; dst = m.dst; reads = m.reads; sets = m.sets; clear = x; move = m.move }
 

@@ -1,24 +1,26 @@
 // Every instruction once in each of: the rules 4 to 7, and what becomes of the record.
 ghost use Rattle.std.specs.Prelude.{◌≡◌, ℕ};
 ghost use Rattle.control.specs.Halves.{Choice, thread_of, joined};
+ghost use Rattle.control.specs.Record.{thread_at, slot_used};
 ghost use Rattle.rules.specs.Vocabulary.{no_clear};
 ghost use Rattle.rules.specs.Multiply.{counted_a};
 ghost use Rattle.rules.specs.Instructions.{meaning_of};
-ghost use Rattle.rules.specs.After.{slot_number, thread_by, last_by, leaves_record};
+ghost use Rattle.rules.specs.After.{slot_number, thread_by, last_by, record_after, leaves_record};
 ghost use Rattle.rules.specs.Rules.{operand_rules, lowest, verdict_answer, lowest_answer};
 
-use crate::{Verdict, counters, legacy, multiply, scalar, shifts};
+use crate::{counters, legacy, multiply, scalar, shifts};
+use cells::ByFile;
 use control::{Core, Own, Slot};
-use word::{Clear, Operands};
+use word::{Operands, Refusal};
 
-fn no_clear() -> Clear
+fn no_clear() -> ByFile<bool>
     ensures { result ≡ no_clear }
 {
-    Clear { a: false, b: false }
+    ByFile { a: false, b: false }
 }
 
 // Which of the rules 4 to 7 is broken first. The address slots are any.
-pub fn judge_operands(k: Core, thread: u8, f: Operands) -> Verdict
+pub fn judge_operands(k: Core, thread: u8, f: Operands) -> Result<(), Refusal>
     ensures verdict { (s : ℕ → Choice) → result ≡ lowest (operand_rules (joined k s) thread f) }
     ensures number { (s : ℕ → Choice) → verdict_answer result ≡ lowest_answer (operand_rules (joined k s) thread f) }
 {
@@ -27,10 +29,10 @@ pub fn judge_operands(k: Core, thread: u8, f: Operands) -> Verdict
         Operands::Legacy(_) => legacy::judge_legacy(k),
         Operands::SetCounters(w) => counters::judge_counters(w.fields().mode),
         Operands::AddCounters(w) => counters::judge_counters(w.fields().mode),
-        Operands::ZeroSrc(_) => Verdict::Done,
+        Operands::ZeroSrc(_) => Ok(()),
         Operands::ShiftA(w) => shifts::judge_shift_a(k, w),
         Operands::ShiftB(_) => shifts::judge_shift_b(k),
-        Operands::NoEffect => Verdict::Done,
+        Operands::NoEffect => Ok(()),
         Operands::Scalar(w) => scalar::judge_scalar(w),
     }
 }
@@ -52,9 +54,10 @@ pub fn slot_number(f: Operands) -> u32
     }
 }
 
-// ---- the record after it, part by part: a thread's own numbers, the files that it clears, the last SrcA row. The control crate puts them together.
+// ---- the record after it, part by part: a thread's own numbers, the files that it clears, the last SrcA row; put together by the control crate
 
 // Of its thread, whose own numbers are `x`; `slot` is the one that its number names. The address slots are any.
+#[inline(always)]
 pub fn own_after(x: Own, slot: Slot, f: Operands) -> Own
     ensures { (h : Choice) → thread_of result h ≡ thread_by (meaning_of f).move slot (thread_of x h) }
 {
@@ -80,7 +83,8 @@ pub fn own_after(x: Own, slot: Slot, f: Operands) -> Own
 }
 
 // The files that it clears.
-pub fn clear_by(f: Operands) -> Clear
+#[inline(always)]
+pub fn clear_by(f: Operands) -> ByFile<bool>
     ensures { result ≡ (meaning_of f).clear }
 {
     match f {
@@ -97,6 +101,7 @@ pub fn clear_by(f: Operands) -> Clear
 }
 
 // By the thread's own numbers before it.
+#[inline(always)]
 pub fn last_after(x: Own, last: u8, f: Operands) -> u8
     ensures { result ≡ last_by (meaning_of f).move (counted_a x) last }
 {
@@ -112,6 +117,19 @@ pub fn last_after(x: Own, last: u8, f: Operands) -> u8
         Operands::Scalar(_) => return last,
     }
     multiply::row_a(x)
+}
+
+// The core after it; `slot` is the one that its number names.
+#[inline(always)]
+pub fn core_after(k: Core, thread: u8, slot: Slot, f: Operands) -> Core
+    ensures { (s : ℕ → Choice) → slot ≡ slot_used (thread_at (joined k s) thread) (slot_number f)
+        → joined result s ≡ record_after (joined k s) thread f }
+{
+    let x = control::own_at(k, thread);
+    let own = own_after(x, slot, f);
+    let clear = clear_by(f);
+    let last = last_after(x, k.last, f);
+    control::core_with(k, thread, own, clear, last)
 }
 
 // Whether it leaves the record as it is, whatever this holds.

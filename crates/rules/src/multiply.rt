@@ -8,7 +8,7 @@ ghost use Rattle.rules.specs.Multiply.{height_rows, multiply_modes, modelled, co
 ghost use Rattle.rules.specs.Access.{reads_of};
 ghost use Rattle.rules.specs.Rules.{operand_rules, lowest, verdict_answer, lowest_answer};
 
-use crate::{Reads, Verdict, vocabulary};
+use crate::{Reads, vocabulary};
 use cells::Span;
 use control::{Core, Own, Settings};
 use word::{Height, MultiplyWord, Refusal};
@@ -103,11 +103,12 @@ pub fn multiply_reads(k: Core, thread: u8, w: MultiplyWord) -> Reads
         first: row_dst(k.settings.base, x, height, m.dst),
         count,
     };
-    let mut r = vocabulary::no_reads();
-    r.a = a;
-    r.b = b;
-    r.dst = dst;
-    r
+    Reads {
+        a,
+        b,
+        dst,
+        ..vocabulary::no_reads()
+    }
 }
 
 // A row below 512 is inside Dst whatever its width.
@@ -120,14 +121,14 @@ fn past_end(s: Settings, row: u32) -> bool
     cells::row_count(control::width_of(s)) <= row
 }
 
-pub fn judge_multiply(k: Core, thread: u8, w: MultiplyWord) -> Verdict
+pub fn judge_multiply(k: Core, thread: u8, w: MultiplyWord) -> Result<(), Refusal>
     ensures verdict { (s : ℕ → Choice) → result ≡ lowest (operand_rules (joined k s) thread (operands.Multiply w)) }
     ensures number { (s : ℕ → Choice) → verdict_answer result ≡ lowest_answer (operand_rules (joined k s) thread (operands.Multiply w)) }
 {
     let m = w.fields();
     let height = m.height;
     if multiply_modes(height) <= m.mode {
-        return Verdict::Refused(Refusal::UndefinedMode);
+        return Err(Refusal::UndefinedMode);
     }
     let settings = k.settings;
     if is_modelled(settings) {
@@ -136,7 +137,7 @@ pub fn judge_multiply(k: Core, thread: u8, w: MultiplyWord) -> Verdict
             let row = row_dst(k.settings.base, x, height, m.dst);
             return vocabulary::refused_if(past_end(settings, row), Refusal::DstRow);
         }
-        return Verdict::Refused(Refusal::BankOwner);
+        return Err(Refusal::BankOwner);
     }
-    Verdict::Refused(Refusal::UnmodelledSettings)
+    Err(Refusal::UnmodelledSettings)
 }

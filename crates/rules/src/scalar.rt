@@ -4,7 +4,7 @@ ghost use Rattle.word.specs.declared.Operands.TheVariants as operands;
 ghost use Rattle.rules.specs.Scalar.{scalar_modes};
 ghost use Rattle.rules.specs.Rules.{undefined_mode, ◌when◌, refused_if, verdict_answer, lowest_answer};
 
-use crate::{Verdict, vocabulary};
+use crate::vocabulary;
 use word::{Operation, Refusal, ScalarWord};
 
 fn scalar_modes(op: Operation) -> u32
@@ -17,7 +17,7 @@ fn scalar_modes(op: Operation) -> u32
     }
 }
 
-pub fn judge_scalar(w: ScalarWord) -> Verdict
+pub fn judge_scalar(w: ScalarWord) -> Result<(), Refusal>
     ensures verdict { result ≡ refused_if (undefined_mode (operands.Scalar w)) Refusal.UndefinedMode }
     ensures number { verdict_answer result ≡ lowest_answer ((Refusal.UndefinedMode when undefined_mode (operands.Scalar w)) ∷ []) }
 {

@@ -8,7 +8,7 @@ ghost use Rattle.rules.specs.Shifts.{shifted_a, shifted_b};
 ghost use Rattle.rules.specs.Access.{reads_of};
 ghost use Rattle.rules.specs.Rules.{operand_rules, lowest, ◌when◌, refused_if, verdict_answer, lowest_answer};
 
-use crate::{Reads, Verdict, vocabulary};
+use crate::{Reads, vocabulary};
 use cells::Span;
 use control::Core;
 use word::{Refusal, ShiftAWord, ShiftB, ShiftBWord};
@@ -32,17 +32,18 @@ pub fn shift_a_reads(k: Core) -> Reads
         first: cells::bank_row(k.a.matrix, k.last),
         count: 16,
     };
-    let mut r = vocabulary::no_reads();
-    r.a = a;
-    r
+    Reads {
+        a,
+        ..vocabulary::no_reads()
+    }
 }
 
-pub fn judge_shift_a(k: Core, w: ShiftAWord) -> Verdict
+pub fn judge_shift_a(k: Core, w: ShiftAWord) -> Result<(), Refusal>
     ensures verdict { (s : ℕ → Choice) → result ≡ lowest (operand_rules (joined k s) 0 (operands.ShiftA w)) }
     ensures number { (s : ℕ → Choice) → verdict_answer result ≡ lowest_answer (operand_rules (joined k s) 0 (operands.ShiftA w)) }
 {
     if w.mode() < 2 {
-        return Verdict::Refused(Refusal::UndefinedMode);
+        return Err(Refusal::UndefinedMode);
     }
     let a = k.a;
     vocabulary::refused_if(!control::matrix_owns(a), Refusal::BankOwner)
@@ -66,12 +67,13 @@ pub fn shift_b_reads(k: Core, thread: u8, w: ShiftBWord) -> Reads
         first: shifted_b(k, thread, w.fields()),
         count: 1,
     };
-    let mut r = vocabulary::no_reads();
-    r.b = b;
-    r
+    Reads {
+        b,
+        ..vocabulary::no_reads()
+    }
 }
 
-pub fn judge_shift_b(k: Core) -> Verdict
+pub fn judge_shift_b(k: Core) -> Result<(), Refusal>
     ensures verdict { result ≡ refused_if (not (matrix_owns k.b)) Refusal.BankOwner }
     ensures number { verdict_answer result ≡ lowest_answer ((Refusal.BankOwner when not (matrix_owns k.b)) ∷ []) }
 {

@@ -4,7 +4,7 @@ ghost use Rattle.control.specs.Halves.{Choice, joined};
 ghost use Rattle.rules.specs.Vocabulary.{no_reads};
 ghost use Rattle.rules.specs.Rules.{both_owned, ◌when◌, refused_if, verdict_answer, lowest_answer};
 
-use crate::{Reads, Verdict};
+use crate::Reads;
 use control::Core;
 use word::Refusal;
 
@@ -22,14 +22,14 @@ pub(crate) fn no_reads() -> Reads
 }
 
 // One rule alone.
-pub fn refused_if(bad: bool, refusal: Refusal) -> Verdict
+pub fn refused_if(bad: bool, refusal: Refusal) -> Result<(), Refusal>
     ensures verdict { result ≡ refused_if bad refusal }
     ensures number { verdict_answer result ≡ lowest_answer ((refusal when bad) ∷ []) }
 {
     if bad {
-        return Verdict::Refused(refusal);
+        return Err(refusal);
     }
-    Verdict::Done
+    Ok(())
 }
 
 // The address slots are any.

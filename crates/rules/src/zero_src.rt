@@ -1,10 +1,9 @@
 // ZEROSRC: the rows that it fills.
-ghost use Rattle.std.specs.Prelude.{◌≡◌, ℕ};
-ghost use Rattle.control.specs.Halves.{Choice, joined};
-ghost use Rattle.rules.specs.ZeroSrc.{filled_in, filled_a, filled_b};
+ghost use Rattle.std.specs.Prelude.{◌≡◌};
+ghost use Rattle.rules.specs.ZeroSrc.{filled_in, filled_if};
 
 use cells::Span;
-use control::{Banks, Core};
+use control::Banks;
 use word::ZeroSrc;
 
 // Of a chosen file: both banks, or the one at the unpackers' pointer.
@@ -20,23 +19,13 @@ fn filled_in(b: Banks, z: ZeroSrc) -> Span
     cells::bank_span(b.unpack)
 }
 
-// The address slots are any.
-pub fn filled_a(k: Core, z: ZeroSrc) -> Span
-    ensures { (s : ℕ → Choice) → result ≡ filled_a (joined k s) z }
+// Of a file by its banks: none where it is not chosen.
+pub fn filled_if(chosen: bool, b: Banks, z: ZeroSrc) -> Span
+    ensures { result ≡ filled_if chosen b z }
 {
-    let b = k.a;
-    if z.a {
-        return filled_in(b, z);
+    if chosen {
+        filled_in(b, z)
+    } else {
+        cells::no_span()
     }
-    cells::no_span()
-}
-
-pub fn filled_b(k: Core, z: ZeroSrc) -> Span
-    ensures { (s : ℕ → Choice) → result ≡ filled_b (joined k s) z }
-{
-    let b = k.b;
-    if z.b {
-        return filled_in(b, z);
-    }
-    cells::no_span()
 }

@@ -2,12 +2,12 @@
 use mathlib.Core.Path.{◌≡◌, refl}
 use mathlib.Core.Bool.{true}
 use mathlib.Core.List.{List, [], ◌∷◌}
-use mathlib.Core.Option.{Option, none}
 use Prim.Native.Nat.{ℕ, zero, suc, ◌+◌, ◌<◌, ◌≤◌}
 use native.Mathlib.Omega.{arith}
 use borrow.Author.Tests.{ltb-true, ltb-false}
 use lib.Dec.{ltb}
 use lib.ListN.{length}
+use Rattle.std.specs.Prelude.{⊤, Result, Ok, Err, Option, None}
 use Rattle.cells.specs.Layout.{job_bytes}
 use Rattle.cells.specs.State.{State, sized}
 use Rattle.cells.specs.Tests.{one_of}
@@ -20,15 +20,12 @@ use Rattle.word.specs.declared.Refusal.TheVariants as refusal
 use Rattle.control.specs.declared.Control.{Control}
 use Rattle.control.specs.Record.{start}
 use Rattle.rules.specs.Rules.{lowest}
-use Rattle.rules.specs.declared.Verdict.{Verdict}
-use Rattle.rules.specs.declared.Verdict.TheVariants as verdict
 use Rattle.step.specs.Step.{stepped_of}
 use Rattle.step.proofs.Verdicts.{step_bit}
 use Rattle.job.specs.Fields.{job_width, field_at, fields_from}
 use Rattle.job.specs.Shape.{shape_of}
 use Rattle.job.specs.declared.Field.{Field}
-use Rattle.job.specs.declared.Shape.{Shape}
-use Rattle.job.specs.declared.Shape.TheVariants as shape
+use Rattle.job.specs.declared.WrongAt.{WrongAt}
 use Rattle.job.proofs.Walk.{grows, ends, place_at, fields_end, fields_step}
 use Rattle.job.proofs.Shaped.{shaped, shape_inside}
 use Rattle.walk.specs.FieldRecord.{issue_of}
@@ -36,12 +33,11 @@ use Rattle.walk.proofs.RecordKept.{issue_most}
 use Rattle.precheck.specs.Marks.{Marks, unset}
 use Rattle.precheck.specs.Judging.{field_rules}
 use Rattle.precheck.specs.Check.{unless_broken, check_from, precheck_of, checked_answer, precheck_answer}
-use Rattle.precheck.specs.declared.Checked.{Checked}
-use Rattle.precheck.specs.declared.Checked.TheVariants as checked
 use Rattle.precheck.proofs.Checking.{precheck_right, precheck_wrong, precheck_passed}
 use Rattle.precheck.proofs.FieldBits.{field_bit}
 use Rattle.run.specs.Run.{execute, run_of, outcome_answer, run_answer}
 use Rattle.run.proofs.Running.{run_unsized, run_refused, run_passed}
+use Rattle.word.specs.declared.Refused.{Refused}
 
 -- a bit beside a number
 abbrev pub SmallBit : ℕ → Option ℕ → Type 0
@@ -63,12 +59,12 @@ bit_small r h = (bit_back r, go (has_bit r))
     go (other n b) = rw b (omega arith)
 
 -- that of one without a bit
-no_bit : (number : ℕ) → bit_by number 0 ≡ none → SmallBit number none
+no_bit : (number : ℕ) → bit_by number 0 ≡ None → SmallBit number None
 no_bit number e = (e, omega arith)
 
 -- ---- the single step
 
-pub step_small : (c : Control) (t w : ℕ) (s : State) (r : Refusal) → (stepped_of c t w s).verdict ≡ verdict.Refused r → SmallBit (number_of r) (bit_of r)
+pub step_small : (c : Control) (t w : ℕ) (s : State) (r : Refusal) → (stepped_of c t w s).verdict ≡ Err r → SmallBit (number_of r) (bit_of r)
 unfolding stepped_of
 step_small c t w s r e = bit_small r (λ i q. let b = step_bit c t w s r e i q in omega (arith, b.1, offending_low w b.0))
 
@@ -100,20 +96,20 @@ unfolding check_from
 check_small job [] c m n i = i
 check_small job (f ∷ fs) c m n i = go (lowest (field_rules c m f.kind)) refl _ (check_small job fs _ _ _ i.1)
   where
-    bit : (r : Refusal) → lowest (field_rules c m f.kind) ≡ verdict.Refused r → (i : ℕ) → r ≡ refusal.UnnamedBit i → i < 24
+    bit : (r : Refusal) → lowest (field_rules c m f.kind) ≡ Err r → (i : ℕ) → r ≡ refusal.UnnamedBit i → i < 24
     bit r e i q = let b = field_bit c m f.kind r e i q in omega (arith, b.bit, offending_low b.word b.unnamed)
 
-    go : (v : Verdict) → lowest (field_rules c m f.kind) ≡ v → (next : Checked) → Small (checked_answer next) → Small (checked_answer (unless_broken v f.place next))
-    go verdict.Done e next h = h
-    go (verdict.Refused r) e next h = (tabled r, i.0, bit_small r (bit r e))
+    go : (v : Result ⊤ Refusal) → lowest (field_rules c m f.kind) ≡ v → (next : Result ℕ Refused) → Small (checked_answer next) → Small (checked_answer (unless_broken v f.place next))
+    go (Ok u) e next h = h
+    go (Err r) e next h = (tabled r, i.0, bit_small r (bit r e))
 
 pub precheck_small : (job : List ℕ) → Small (precheck_answer job)
 unfolding precheck_answer
 precheck_small job = go (shape_of job) refl
   where
-    go : (x : Shape) → shape_of job ≡ x → Small (checked_answer (precheck_of job))
-    go shape.Right e = rw (precheck_right job e) (check_small job (fields_from job 0) start (unset (job_width job)) 0 (inside job (shaped job e).short))
-    go (shape.WrongAt place) e = rw (precheck_wrong job place e) (tabled refusal.Shape, shape_inside job place e, no_bit 1 refl)
+    go : (x : Result ⊤ WrongAt) → shape_of job ≡ x → Small (checked_answer (precheck_of job))
+    go (Ok x) e = rw (precheck_right job e) (check_small job (fields_from job 0) start (unset (job_width job)) 0 (inside job (shaped job e).short))
+    go (Err wrong) e = rw (precheck_wrong job wrong.0 e) (tabled refusal.Shape, shape_inside job wrong.0 e, no_bit 1 refl)
 
 -- ---- the run
 
@@ -126,7 +122,7 @@ pub run_small : (job : List ℕ) (s : State) → Small (run_answer job s)
 unfolding run_answer precheck_answer
 run_small job s = split (sized s) (λ z. go z (precheck_of job) refl (precheck_small job)) (λ z. rw (run_unsized job s z) (tabled refusal.StateLength, omega arith, no_bit 9 refl))
   where
-    go : sized s ≡ true → (x : Checked) → precheck_of job ≡ x → Small (precheck_answer job) → Small (outcome_answer (run_of job s).outcome)
-    go z (checked.Passed n) e h =
+    go : sized s ≡ true → (x : Result ℕ Refused) → precheck_of job ≡ x → Small (precheck_answer job) → Small (outcome_answer (run_of job s).outcome)
+    go z (Ok n) e h =
         rw (run_passed job s z n e) (execute_small job (fields_from job 0) start s 0 (inside job (shaped job (precheck_passed job n e).0).short))
-    go z (checked.Refused r place) e h = rw (run_refused job s z r place e) (rw e at h)
+    go z (Err x) e h = rw (run_refused job s z x.refusal x.place e) (rw e at h)

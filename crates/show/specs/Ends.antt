@@ -1,28 +1,22 @@
 -- How a program ended, and the exit status that says so. Definitions only.
-use Rattle.std.specs.Prelude.{ℕ, Bool, true, false}
-use Rattle.precheck.specs.declared.Checked.{Checked}
-use Rattle.precheck.specs.declared.Checked.TheVariants as checked
-use Rattle.run.specs.declared.Outcome.{Outcome}
-use Rattle.run.specs.declared.Outcome.TheVariants as outcome
+use Rattle.std.specs.Prelude.{ℕ, Ok, Err, Result}
 use Rattle.show.specs.declared.end.End.{End}
-use Rattle.show.specs.declared.end.End.TheVariants.{Done, Refused, Unread, Unwritten}
+use Rattle.show.specs.declared.end.End.TheVariants as end
+use Rattle.word.specs.declared.Refused.{Refused}
 
-abbrev pub run_end : Outcome → End
-run_end (outcome.Finished count) = Done
-run_end (outcome.Refused refusal place) = Refused
-
-abbrev pub check_end : Checked → End
-check_end (checked.Passed count) = Done
-check_end (checked.Refused refusal place) = Refused
+-- by the answer of a run or of a pre-check
+abbrev pub answer_end : Result ℕ Refused → End
+answer_end (Ok count) = end.Done
+answer_end (Err x) = end.Refused
 
 -- what the caller was not told in full is neither done nor refused
-abbrev pub told_end : End → Bool → End
-told_end end true = end
-told_end end false = Unwritten
+abbrev pub told_end : {E : Type 0} → Result End E → End
+told_end (Ok x) = x
+told_end (Err e) = end.Unwritten
 
 -- the exit status; 2, a wrong call, is not a program's to give
 abbrev pub status_of : End → ℕ
-status_of Done = 0
-status_of Refused = 1
-status_of Unread = 3
-status_of Unwritten = 3
+status_of end.Done = 0
+status_of end.Refused = 1
+status_of end.Unread = 3
+status_of end.Unwritten = 3

@@ -1,15 +1,14 @@
 // How a program ended. The program says it on a descriptor of its own, and the caller that opened it gives it on as the exit
 // status. Where nobody did, saying it does nothing.
 ghost use Rattle.std.specs.Prelude.{◌≡◌};
-ghost use Rattle.show.specs.Ends.{run_end, check_end, told_end, status_of};
+ghost use Rattle.show.specs.Ends.{answer_end, told_end, status_of};
 
-use precheck::Checked;
-use run::Outcome;
 use std::fs::OpenOptions;
 use std::io::{Eprint, Write};
 use std::os::unix::fs::FileTypeExt;
 use std::rt::Files;
 use std::{fs, io};
+use word::Refused;
 
 #[derive(Clone, Copy)]
 pub enum End {
@@ -22,39 +21,37 @@ pub enum End {
 // The name of descriptor 3.
 const STATUS_PATH: &str = "/proc/self/fd/3";
 
-pub fn run_end(outcome: Outcome) -> End
-    ensures { result ≡ run_end outcome }
+// By the answer of a run or of a pre-check.
+pub fn answer_end(answer: Result<usize, Refused>) -> End
+    ensures { result ≡ answer_end answer }
 {
-    match outcome {
-        Outcome::Finished(_) => End::Done,
-        Outcome::Refused(_, _) => End::Refused,
-    }
-}
-
-pub fn check_end(checked: Checked) -> End
-    ensures { result ≡ check_end checked }
-{
-    match checked {
-        Checked::Passed(_) => End::Done,
-        Checked::Refused(_, _) => End::Refused,
+    match answer {
+        Ok(_) => End::Done,
+        Err(_) => End::Refused,
     }
 }
 
 // The end as the caller was told it.
-pub fn told(end: End, written: bool) -> End
-    ensures { result ≡ told_end end written }
-{
-    if written { end } else { End::Unwritten }
-}
-
-fn status_of(end: End) -> u8
-    ensures { result ≡ status_of end }
+pub fn told(end: io::Result<End>) -> End
+    ensures { result ≡ told_end end }
 {
     match end {
-        End::Done => 0,
-        End::Refused => 1,
-        End::Unread => 3,
-        End::Unwritten => 3,
+        Ok(end) => end,
+        Err(_) => End::Unwritten,
+    }
+}
+
+// The exit status; 2, a wrong call, is not a program's to give.
+impl From<End> for u8 {
+    ghost from_gives = { λ end n. n ≡ status_of end };
+
+    fn from(end: End) -> u8 {
+        match end {
+            End::Done => 0,
+            End::Refused => 1,
+            End::Unread => 3,
+            End::Unwritten => 3,
+        }
     }
 }
 
@@ -90,5 +87,5 @@ fn write_status<R: Files>(rt: &R, status: u8) -> io::Result<()> {
 // The last thing that a program does: the status as one line on its descriptor, and what failed on standard error.
 pub fn say<R: Files + Eprint>(rt: &R, end: End) {
     complain(rt, end);
-    let _ = write_status(rt, status_of(end));
+    let _ = write_status(rt, u8::from(end));
 }

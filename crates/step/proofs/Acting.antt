@@ -1,4 +1,5 @@
 -- What each class makes of the lent numbers, as one instruction. Assumes nothing.
+use Rattle.std.specs.Prelude.{Result, Err, ⊤}
 use mathlib.Core.Path.{◌≡◌, refl, sym, ap, ◌∙◌}
 use mathlib.Core.Bool.{Bool, true, false, cond}
 use mathlib.Core.List.{List}
@@ -13,8 +14,6 @@ use Rattle.word.specs.declared.Operands.{Operands}
 use Rattle.word.specs.declared.Operands.TheVariants as operands
 use Rattle.word.specs.declared.Refusal.{Refusal}
 use Rattle.control.specs.declared.Control.{Control}
-use Rattle.rules.specs.declared.Verdict.{Verdict}
-use Rattle.rules.specs.declared.Verdict.TheVariants.{Refused}
 use Rattle.product.specs.Product.{multiplied, fits}
 use Rattle.step.specs.Multiply.{product_of}
 use Rattle.step.specs.Shifts.{shift_a, shift_b}
@@ -64,5 +63,5 @@ whole_acts c t s f g e i h =
     ∙ sym (ap (λ (x : Operands). cond (inside c t x s) (effect_of c t x s) s) e)
 
 -- a refused one leaves what was there
-pub refused_leaves : (v : Verdict) (x : Refusal) → v ≡ Refused x → (new old : State) → old ≡ if_done v new old
-refused_leaves v x e new old = sym (ap (λ (w : Verdict). if_done w new old) e)
+pub refused_leaves : (v : Result ⊤ Refusal) (x : Refusal) → v ≡ Err x → (new old : State) → old ≡ if_done v new old
+refused_leaves v x e new old = sym (ap (λ (w : Result ⊤ Refusal). if_done w new old) e)

@@ -1,5 +1,6 @@
 -- Under a record in range, for one of the three threads and on files of the right sizes, an instruction that breaks no rule works on rows inside its
 -- files. Assumes nothing.
+use Rattle.std.specs.Prelude.{Ok}
 use mathlib.Core.Path.{◌≡◌, refl, ap}
 use mathlib.Core.Bool.{Bool, true, false, cond}
 use Prim.Native.Nat.{ℕ, ◌+◌}
@@ -20,7 +21,6 @@ use Rattle.control.proofs.Bounds.{shared_bounds}
 use Rattle.rules.specs.Multiply.{row_dst}
 use Rattle.rules.specs.Shifts.{shifted_a, shifted_b}
 use Rattle.rules.specs.Rules.{row_wrong, operand_rules, lowest}
-use Rattle.rules.specs.declared.Verdict.TheVariants.{Done}
 use Rattle.rules.proofs.Places.{shifted_b_inside}
 use Rattle.rules.proofs.Reading.{row_right}
 use Rattle.step.specs.Effect.{effect_of}
@@ -43,6 +43,6 @@ module _ (c : Control) (t : ℕ) (s : State) (range : in_range c ≡ true) (z : 
   all_inside (operands.Scalar w) h = refl
 
   -- so it has its whole effect
-  pub acts_whole : (f : Operands) → lowest (operand_rules c t f) ≡ Done → acted c t f s ≡ effect_of c t f s
+  pub acts_whole : (f : Operands) → lowest (operand_rules c t f) ≡ Ok tt → acted c t f s ≡ effect_of c t f s
   unfolding acted
   acts_whole f d = ap (λ (b : Bool). cond b (effect_of c t f s) s) (all_inside f (row_right c t f d))

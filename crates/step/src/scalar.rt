@@ -1,9 +1,10 @@
 // BITWOPDMAREG, SHIFTDMAREG, CMPDMAREG: the numbers.
-ghost use Rattle.std.specs.Prelude.{◌≡◌, cond, get_or};
+ghost use Rattle.std.specs.Prelude.{◌≡◌, get_or};
 ghost use Rattle.step.specs.Scalar.{bitwise_of, shift_of, compare_of, computed, operand_b, scalar};
 
 use word::{Operation, Scalar};
 
+// Here and below a mode is any number, as `computed` says; rule 4 was judged before.
 fn bitwise(mode: u32, x: u32, y: u32) -> u32
     ensures { result ≡ bitwise_of mode x y }
 {
@@ -25,25 +26,16 @@ fn shift(mode: u32, x: u32, y: u32) -> u32
     x >> (y % 32)
 }
 
-fn as_number(b: bool) -> u32
-    ensures { result ≡ cond b 1 0 }
-{
-    if b {
-        return 1;
-    }
-    0
-}
-
 fn compare(mode: u32, x: u32, y: u32) -> u32
     ensures { result ≡ compare_of mode x y }
 {
     if mode == 0 {
-        return as_number(y < x);
+        return u32::from(y < x);
     }
     if mode == 1 {
-        return as_number(x < y);
+        return u32::from(x < y);
     }
-    as_number(x == y)
+    u32::from(x == y)
 }
 
 fn compute(op: Operation, mode: u32, x: u32, y: u32) -> u32
@@ -60,10 +52,7 @@ fn compute(op: Operation, mode: u32, x: u32, y: u32) -> u32
 fn value_at(registers: &[u32], i: usize) -> u32
     ensures { result ≡ get_or registers.now i 0 }
 {
-    if i < registers.len() {
-        return registers[i];
-    }
-    0
+    registers.get(i).copied().unwrap_or(0)
 }
 
 fn operand_b(thread: u8, s: Scalar, registers: &[u32]) -> u32
@@ -80,10 +69,8 @@ pub fn scalar_unit(thread: u8, s: Scalar, registers: &mut [u32])
 {
     let y = operand_b(thread, s, registers);
     let x = value_at(registers, cells::register_at(thread, s.a) as usize);
-    let op = s.op;
     let k = cells::register_at(thread, s.result) as usize;
-    if registers.len() <= k {
-        return;
+    if k < registers.len() {
+        registers[k] = compute(s.op, s.mode, x, y);
     }
-    registers[k] = compute(op, s.mode, x, y);
 }

@@ -9,20 +9,19 @@ ghost use Rattle.step.specs.Inside.{inside_a, inside_b};
 use control::Core;
 use word::ShiftB;
 
-// One column to the left, from the places `gap` further on; `end` at column 15. A place is read before it is written.
+// One column to the left, from the places `gap` further on; `end` at column 15. By index: before a place is written, one further on in the same
+// file is read.
 fn shift_left(lo: usize, hi: usize, gap: usize, end: u32, file: &mut [u32])
     requires { (hi % column_count ≡ 0) × (lo ≤ hi) × (hi + gap ≤ length file.old) }
     ensures { file.new
         ≡ over (between lo hi) (λ p. cond (eqb (p % column_count) 15) end (get_or file.old (p + gap + 1) 0)) file.old }
 {
-    let mut p = lo;
-    while p < hi {
+    for p in lo..hi {
         if p % cells::COLUMNS == 15 {
             file[p] = end;
         } else {
             file[p] = file[p + gap + 1];
         }
-        p += 1;
     }
 }
 
@@ -33,12 +32,10 @@ fn shift_right(lo: usize, hi: usize, gap: usize, file: &mut [u32])
         ≡ over (between lo hi) (λ p. cond (eqb (p % column_count) 0) 0 (get_or file.old (p + gap - 1) 0)) file.old }
 {
     let mut held = 0;
-    let mut p = lo;
-    while p < hi {
+    for p in lo..hi {
         let next = file[p + gap];
         file[p] = unless_first(p, held);
         held = next;
-        p += 1;
     }
 }
 

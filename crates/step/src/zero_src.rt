@@ -23,11 +23,8 @@ pub fn zero_src(k: Core, z: ZeroSrc, srca: &mut [u32], srcb: &mut [u32])
     ensures { (s : ℕ → Choice) → (srca.new ≡ over_rows (filled_a (joined k s) z) (λ i. fill_a z) srca.old)
         × (srcb.new ≡ over_rows (filled_b (joined k s) z) (λ i. 0) srcb.old) }
 {
-    cells::fill_rows(
-        Width::Bits32,
-        rules::zero_src::filled_a(k, z),
-        fill_a(z),
-        srca,
-    );
-    cells::fill_rows(Width::Bits32, rules::zero_src::filled_b(k, z), 0, srcb);
+    let rows_a = rules::zero_src::filled_if(z.a, k.a, z);
+    cells::fill_rows(Width::Bits32, rows_a, fill_a(z), srca);
+    let rows_b = rules::zero_src::filled_if(z.b, k.b, z);
+    cells::fill_rows(Width::Bits32, rows_b, 0, srcb);
 }

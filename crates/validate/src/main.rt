@@ -5,7 +5,7 @@ ghost use Rattle.std.specs.Prelude.{◌≡◌, ◌≢◌};
 ghost use Rattle.std.specs.Io.KnownBytes.{Appends};
 ghost use Rattle.precheck.specs.Check.{precheck_of};
 ghost use Rattle.lines.specs.Printed.{checked_text};
-ghost use Rattle.show.specs.Ends.{check_end};
+ghost use Rattle.show.specs.Ends.{answer_end};
 ghost use Rattle.show.specs.declared.end.End.TheVariants as End;
 
 use show::End;
@@ -13,22 +13,18 @@ use std::io::Write;
 
 // Any end but `Unwritten` is that of the pre-check, and then its text was written.
 fn check_job<W: Write>(out: &mut W, job: &[u8]) -> End
-    ensures { result ≢ End.Unwritten → (result ≡ check_end (precheck_of job.now))
+    ensures { result ≢ End.Unwritten → (result ≡ answer_end (precheck_of job.now))
         × Appends (W.contents out.old) (W.contents out.new) (checked_text (precheck_of job.now)) }
 {
     let checked = precheck::precheck(job);
-    let written = show::put(out, lines::checked_text(checked));
-    show::told(show::check_end(checked), written)
+    show::told(show::put(out, lines::checked_text(checked)).map(|()| show::answer_end(checked)))
 }
 
 fn main(rt: HostRuntime) {
     let mut buffer = [0u8; cells::JOB_BYTES + 1];
-    let input = show::read(&mut rt.stdin(), &mut buffer);
-    if !input.whole {
-        show::say(&rt, End::Unread);
-        return;
-    }
-    let n = input.len;
-    let end = check_job(&mut rt.stdout(), &buffer[..n]);
+    let end = match show::read(&mut rt.stdin(), &mut buffer) {
+        Ok(n) => check_job(&mut rt.stdout(), &buffer[..n]),
+        Err(_) => End::Unread,
+    };
     show::say(&rt, end);
 }

@@ -4,12 +4,16 @@
 ghost use Rattle.std.specs.Prelude.{◌≡◌, ℕ, ◌<◌, ◌^◌};
 ghost use Rattle.cells.specs.Layout.{bank_row};
 ghost use Rattle.control.specs.Halves.{Choice, joined};
+ghost use Rattle.rules.specs.After.{record_after};
+ghost use Rattle.job.specs.Settings.{choices_in};
 ghost use Rattle.walk.specs.FieldRecord.{banks_of, loaded_rows, handed_over};
 
 use cells::{File, Span};
 use control::{Banks, Core};
+use word::Operands;
 
 // The address slots are any, here and below.
+#[tactic(auto, unfolding(control::specs::Halves::joined))]
 pub fn banks_of(k: Core, file: File) -> Banks
     ensures { (s : ℕ → Choice) → result ≡ banks_of (joined k s) file }
 {
@@ -34,14 +38,25 @@ pub fn first_loaded(k: Core, file: File, rows: Span) -> usize
     bank_start(k, file) as usize + rows.first as usize
 }
 
+// After an instruction; its address slots stand in the settings' bytes. It becomes part of each walk, as the functions that it calls become part of it: so
+// the core is not handed on through memory.
+#[inline(always)]
+pub fn advance(k: &mut Core, fixed: &[u8; job::SETTINGS_BYTES], thread: u8, f: Operands)
+    ensures { joined k.new (choices_in fixed.now) ≡ record_after (joined k.old (choices_in fixed.now)) thread f }
+{
+    if !rules::leaves_record(f) {
+        let slot = job::slot_at(fixed, thread, rules::slot_number(f));
+        *k = rules::core_after(*k, thread, slot, f);
+    }
+}
+
+#[tactic(auto, unfolding(control::specs::Halves::joined))]
 pub fn hand_over(k: Core, file: File) -> Core
     ensures { (s : ℕ → Choice) → joined result s ≡ handed_over (joined k s) file }
 {
     let banks = control::hand_over(banks_of(k, file));
-    let mut out = k;
     match file {
-        File::A => out.a = banks,
-        File::B => out.b = banks,
+        File::A => Core { a: banks, ..k },
+        File::B => Core { b: banks, ..k },
     }
-    out
 }

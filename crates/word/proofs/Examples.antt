@@ -1,9 +1,9 @@
 -- Words in the paper's numbers, worked: the three scalar instructions of its worked numbers (xor of register 1 and the constant 5 into register 3; the constant 33), INCRWC, GAPOOL,
 -- DOTPV, a legacy instruction with a dst, SHIFTXB, MVMUL with all its mode bits, which are named; an unknown opcode, whatever its bits; GAPOOL's bit 14 and
 -- SETRWC's bit 4, which the paper does not name; MVMUL's bit 16, the lowest of 16 to 18; CLREXPHIST, which names none, with all bits 1 and with bit 23 alone. Assumes nothing.
+use Rattle.std.specs.Prelude.{None, Some}
 use mathlib.Core.Path.{◌≡◌, refl}
 use mathlib.Core.List.{[], ◌∷◌, map}
-use mathlib.Core.Option.{none, some}
 use Rattle.cells.specs.Cells.{between}
 use Rattle.word.specs.Table.{table}
 use Rattle.word.specs.Fields.{fields, refused_by, word_answer}
@@ -21,7 +21,7 @@ pub answers : map word_answer
     ∷ fields 0x22 (3 ∷ 3 ∷ [])
     ∷ fields 0x18 (0 ∷ 1 ∷ 0 ∷ [])
     ∷ fields 0x26 (0 ∷ 7 ∷ 0 ∷ 0 ∷ [])
-    ∷ refused_by 2 none ∷ refused_by 2 none ∷ refused_by 3 (some 14) ∷ refused_by 3 (some 4)
-    ∷ refused_by 3 (some 16) ∷ refused_by 3 (some 0) ∷ refused_by 3 (some 23) ∷ [])
+    ∷ refused_by 2 None ∷ refused_by 2 None ∷ refused_by 3 (Some 14) ∷ refused_by 3 (Some 4)
+    ∷ refused_by 3 (Some 16) ∷ refused_by 3 (Some 0) ∷ refused_by 3 (Some 23) ∷ [])
 unfolding word_answer table between
 answers = refl

@@ -1,8 +1,8 @@
 -- What the word reader answers is, in numbers, what the word's row says, proved once over the table. Assumes nothing.
+use Rattle.std.specs.Prelude.{Option, None, Some}
 use mathlib.Core.Path.{◌≡◌, refl, sym}
 use mathlib.Core.Bool.{false}
 use mathlib.Core.List.{[], ◌∷◌}
-use mathlib.Core.Option.{Option, none, some}
 use Prim.Native.Nat.{ℕ, ◌+◌, ◌*◌, ◌/◌, ◌%◌, ◌^◌}
 use native.Mathlib.Omega.{arith}
 use lib.Dec.{eqb}
@@ -73,6 +73,6 @@ unfolding read_word unknown_opcode unnamed_bit offending_bit word_operands word_
 read_answer_lem w = by_row_lem (row_of w) refl
   where
     by_row_lem : (o : Option Row) → row_of w ≡ o → read_answer (read_as (unknown_in o) (stray_in o w) (offending_in o w) (operands_in o w)) ≡ answer_in o w
-    by_row_lem none e = refl
-    by_row_lem (some r) e =
-        split (stray_in (some r) w) (λ t. rw t) (λ t. rw t (found_of_lem Right table (opcode_of w) r right e w (sym (found_opcode table (opcode_of w) r e))))
+    by_row_lem None e = refl
+    by_row_lem (Some r) e =
+        split (stray_in (Some r) w) (λ t. rw t) (λ t. rw t (found_of_lem Right table (opcode_of w) r right e w (sym (found_opcode table (opcode_of w) r e))))

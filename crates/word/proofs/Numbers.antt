@@ -1,9 +1,9 @@
 -- Each refusal's number is one of the table's, so it is not 10 and fits a byte; and 3 alone has a bit. Assumes nothing.
+use Rattle.std.specs.Prelude.{None}
 use mathlib.Core.Path.{◌≡◌, refl, ap, ◌∙◌}
 use mathlib.Core.Bool.{Bool, true, false≢true}
 use mathlib.Core.List.{List, [], ◌∷◌, map}
 use mathlib.Core.Logic.{◌≢◌}
-use mathlib.Core.Option.{none}
 use Prim.Native.Nat.{ℕ, ◌<◌}
 use native.Mathlib.Omega.{arith}
 use borrow.Author.Tests.{ne_eqb, eqb-true, ltb-true}
@@ -40,7 +40,7 @@ tabled_not_ten n h e = false≢true (rw e at h)
 
 pub data HasBit (r : Refusal) : Type 0 where
   three : (i : ℕ) → r ≡ refusal.UnnamedBit i → HasBit r
-  other : number_of r ≢ 3 → bit_of r ≡ none → HasBit r
+  other : number_of r ≢ 3 → bit_of r ≡ None → HasBit r
 
 pub has_bit : (r : Refusal) → HasBit r
 has_bit refusal.StateLength = other (λ e. omega arith) refl

@@ -1,8 +1,8 @@
 -- The table of twenty: an opcode that it lacks, and its rule, proved once over the table. Assumes nothing.
+use Rattle.std.specs.Prelude.{None, Some}
 use mathlib.Core.Path.{◌≡◌, refl, sym, ap, ◌∙◌, subst}
 use mathlib.Core.Bool.{Bool, true, false, cond, ◌&&◌, not}
 use mathlib.Core.List.{List, [], ◌∷◌}
-use mathlib.Core.Option.{none, some}
 use Prim.Native.Nat.{ℕ, ◌+◌, ◌-◌, ◌%◌, ◌/◌, ◌^◌, ◌<◌}
 use native.Mathlib.Omega.{arith}
 use lib.Dec.{eqb}
@@ -28,7 +28,7 @@ abbrev pub Away : List Row → ℕ → Type 0 → Type 0
 Away [] op T = T
 Away (r ∷ rs) op T = Away rs op (T × (op ≡ r.opcode → ⊥))
 
-pub away : (rs : List Row) (op : ℕ) (T : Type 0) → Away rs op T → T × (lookup rs op ≡ none)
+pub away : (rs : List Row) (op : ℕ) (T : Type 0) → Away rs op T → T × (lookup rs op ≡ None)
 away [] op T h = (h, refl)
 away (r ∷ rs) op T h =
     let others = away rs op (T × (op ≡ r.opcode → ⊥)) h in
@@ -64,28 +64,28 @@ tested : (f : Row → Bool) (rs : List Row) → every f rs ≡ true → Every (�
 tested f [] h = tt
 tested f (r ∷ rs) h = let b = both (f r) (every f rs) h in (b.0, tested f rs b.1)
 
-pub found_of_lem : (P : Row → Type 0) (rs : List Row) (op : ℕ) (r : Row) → Every P rs → lookup rs op ≡ some r → P r
+pub found_of_lem : (P : Row → Type 0) (rs : List Row) (op : ℕ) (r : Row) → Every P rs → lookup rs op ≡ Some r → P r
 found_of_lem P [] op r h e = absurd (none_some e)
   where
-    none_some : none ≡ some r → ⊥
+    none_some : None ≡ Some r → ⊥
     none_some e = let z : ◌≡◌ {A = ℕ} 0 1 = cc in omega arith
 found_of_lem P (x ∷ rs) op r h e =
     split (eqb x.opcode op)
     (λ t. subst P (here t) h.0)
-    (λ t. found_of_lem P rs op r h.1 (sym (ap (λ (z : Bool). cond z (some x) (lookup rs op)) t) ∙ e))
+    (λ t. found_of_lem P rs op r h.1 (sym (ap (λ (z : Bool). cond z (Some x) (lookup rs op)) t) ∙ e))
   where
     here : eqb x.opcode op ≡ true → x ≡ r
-    here t = let e' : some x ≡ some r = sym (ap (λ (z : Bool). cond z (some x) (lookup rs op)) t) ∙ e in cc
+    here t = let e' : Some x ≡ Some r = sym (ap (λ (z : Bool). cond z (Some x) (lookup rs op)) t) ∙ e in cc
 
 -- and has the opcode that was looked for
-pub found_opcode : (rs : List Row) (op : ℕ) (r : Row) → lookup rs op ≡ some r → r.opcode ≡ op
+pub found_opcode : (rs : List Row) (op : ℕ) (r : Row) → lookup rs op ≡ Some r → r.opcode ≡ op
 found_opcode [] op r e = absurd (let z : ◌≡◌ {A = ℕ} 0 1 = cc in omega arith)
 found_opcode (x ∷ rs) op r e =
     split (eqb x.opcode op)
-    (λ t. let e' : some x ≡ some r = sym (ap (λ (z : Bool). cond z (some x) (lookup rs op)) t) ∙ e in here e' (eqb-true x.opcode op t))
-    (λ t. found_opcode rs op r (sym (ap (λ (z : Bool). cond z (some x) (lookup rs op)) t) ∙ e))
+    (λ t. let e' : Some x ≡ Some r = sym (ap (λ (z : Bool). cond z (Some x) (lookup rs op)) t) ∙ e in here e' (eqb-true x.opcode op t))
+    (λ t. found_opcode rs op r (sym (ap (λ (z : Bool). cond z (Some x) (lookup rs op)) t) ∙ e))
   where
-    here : some x ≡ some r → x.opcode ≡ op → r.opcode ≡ op
+    here : Some x ≡ Some r → x.opcode ≡ op → r.opcode ≡ op
     here e q = let same : x ≡ r = cc in sym (ap (λ (r : Row). r.opcode) same) ∙ q
 
 -- ---- so the mask says what the ranges say
@@ -93,7 +93,7 @@ found_opcode (x ∷ rs) op r e =
 abbrev strays : ℕ → Row → ℕ → Bool
 strays w r i = bit (w % 2 ^ 24) i && not (bit (mask_of r.named) i)
 
-module _ (w : ℕ) (r : Row) (e : row_of w ≡ some r) where
+module _ (w : ℕ) (r : Row) (e : row_of w ≡ Some r) where
   stray_bits : (i : ℕ) → i < 24 → strays w r i ≡ stray_at r.named w i
   stray_bits i h =
       let m = mask_of r.named in
@@ -107,7 +107,7 @@ module _ (w : ℕ) (r : Row) (e : row_of w ≡ some r) where
           ∙ ap (λ (x : ℕ). eqb x 1) (mod-mod-pow (w / 2 ^ i) (23 - i) 1)
 
   -- an unnamed bit is 1 just where masking changes the word
-  pub mask_ranges : stray_in (some r) w ≡ not (masked w (mask_of r.named))
+  pub mask_ranges : stray_in (Some r) w ≡ not (masked w (mask_of r.named))
   mask_ranges =
       sym
       (ap not (mask_bits 24 (w % 2 ^ 24) (mask_of r.named) (omega arith)) ∙ not_not (some_below (strays w r) 24)
@@ -118,7 +118,7 @@ module _ (w : ℕ) (r : Row) (e : row_of w ≡ some r) where
       not_not false = refl
 
   -- and the lowest is then the lowest that masking takes away
-  pub mask_offending : stray_in (some r) w ≡ true → offending_in (some r) w ≡ masked_bit w (mask_of r.named)
+  pub mask_offending : stray_in (Some r) w ≡ true → offending_in (Some r) w ≡ masked_bit w (mask_of r.named)
   mask_offending t =
       sym
       (mask_lowest 32 (w % 2 ^ 24) (mask_of r.named)

@@ -1,13 +1,12 @@
 -- Document 01, "Instruction fields" and "Numbers given back": what the word reader answers, in the paper's numbers: the opcode and the
 -- fields that the instruction goes by, in the order of their row, or the number 2, or 3 and a bit. Definitions only.
-use Rattle.std.specs.Prelude.{Bool, cond, List, [], ◌∷◌, map, ℕ, ◌+◌, ◌*◌, eqb}
-use Rattle.std.proofs.Math.Option.{Option, none, some}
+use Rattle.std.specs.Prelude.{Bool, cond, List, [], ◌∷◌, map, ℕ, ◌+◌, ◌*◌, eqb, Option, None, Some, Result, Ok, Err}
 use Rattle.word.specs.Bits.{bits, Range, ◌to◌}
 use Rattle.word.specs.Table.{Row}
 use Rattle.word.specs.Word.{row_of, stray_in, offending_in}
 use Rattle.word.specs.Refusal.{number_of, bit_of}
 use Rattle.word.specs.Operands.{multiply_of, legacy_of, set_counters_of, add_counters_of, zero_src_of, shift_a_of, shift_b_of, scalar_of}
-use Rattle.word.specs.declared.Clear.{Clear}
+use Rattle.cells.specs.declared.layout.ByFile.{ByFile}
 use Rattle.word.specs.declared.Which.{Which}
 use Rattle.word.specs.declared.Height.{Height}
 use Rattle.word.specs.declared.Height.TheVariants.{Eight, Four}
@@ -24,8 +23,7 @@ use Rattle.word.specs.declared.Class.{Class}
 use Rattle.word.specs.declared.Class.TheVariants as class
 use Rattle.word.specs.declared.Operands.{Operands}
 use Rattle.word.specs.declared.Operands.TheVariants as operands
-use Rattle.word.specs.declared.Read.{Read}
-use Rattle.word.specs.declared.Read.TheVariants as read
+use Rattle.word.specs.declared.Refusal.{Refusal}
 
 pub data WordAnswer : Type 0 where
   fields : ℕ → List ℕ → WordAnswer
@@ -38,7 +36,7 @@ abbrev pub digit : Bool → ℕ
 digit b = cond b 1 0
 
 -- A 1, B 2
-abbrev pub clear_number : Clear → ℕ
+abbrev pub clear_number : ByFile Bool → ℕ
 clear_number c = digit c.a + 2 * digit c.b
 
 -- A 1, B 2, D 4, F 8
@@ -88,9 +86,9 @@ operands_answer (operands.ShiftB x) = fields 0x18 (shift_b_numbers (shift_b_of x
 operands_answer operands.NoEffect = fields 0x35 []
 operands_answer (operands.Scalar x) = fields (operation_opcode (scalar_of x).op) (scalar_numbers (scalar_of x))
 
-abbrev pub read_answer : Read → WordAnswer
-read_answer (read.Operands f) = operands_answer f
-read_answer (read.Refused r) = refused_by (number_of r) (bit_of r)
+abbrev pub read_answer : Result Operands Refusal → WordAnswer
+read_answer (Ok f) = operands_answer f
+read_answer (Err r) = refused_by (number_of r) (bit_of r)
 
 -- ---- of the word
 
@@ -123,8 +121,8 @@ abbrev pub row_fields : Row → ℕ → List ℕ
 row_fields r w = map (λ (x : Range). bits w x.hi x.lo) (used_of r.class r.named)
 
 abbrev pub answer_in : Option Row → ℕ → WordAnswer
-answer_in none w = refused_by 2 none
-answer_in (some r) w = cond (stray_in (some r) w) (refused_by 3 (some (offending_in (some r) w))) (fields (used_opcode r.class r.opcode) (row_fields r w))
+answer_in None w = refused_by 2 None
+answer_in (Some r) w = cond (stray_in (Some r) w) (refused_by 3 (Some (offending_in (Some r) w))) (fields (used_opcode r.class r.opcode) (row_fields r w))
 
 -- 2 for an unknown opcode, else 3 for an unnamed bit that is 1, and the lowest such bit, else the fields
 unfoldable pub word_answer : ℕ → WordAnswer

@@ -1,7 +1,7 @@
 -- Document 01, "Instruction fields": the fields of a word by its class. Definitions only.
-use Rattle.std.specs.Prelude.{cond, ℕ, eqb}
+use Rattle.std.specs.Prelude.{Bool, cond, ℕ, eqb}
 use Rattle.word.specs.Bits.{bits, bit}
-use Rattle.word.specs.declared.Clear.{Clear}
+use Rattle.cells.specs.declared.layout.ByFile.{ByFile}
 use Rattle.word.specs.declared.Which.{Which}
 use Rattle.word.specs.declared.Height.{Height}
 use Rattle.word.specs.declared.Height.TheVariants.{Eight, Four}
@@ -32,7 +32,7 @@ abbrev pub opcode_of : ℕ → ℕ
 opcode_of w = bits w 31 24
 
 -- 23:22 clear: bit 0 of the field for A, bit 1 for B
-abbrev pub clear_of : ℕ → Clear
+abbrev pub clear_of : ℕ → ByFile Bool
 clear_of w = record { a = bit w 22; b = bit w 23 }
 
 -- 3:0 which: A 1, B 2, D 4, F 8

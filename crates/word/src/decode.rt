@@ -3,15 +3,16 @@ ghost use Rattle.std.specs.Prelude.{◌≡◌};
 ghost use Rattle.word.specs.Operands.{clear_of, which_of, height_of, multiply_slot, multiply_of, legacy_of, set_counters_of, add_counters_of, zero_src_of, shift_a_of, shift_b_of, operation_of, scalar_of, operands_of};
 
 use crate::{
-    AddCounters, AddCountersWord, Class, Clear, Height, Legacy, LegacyWord, Multiply, MultiplyWord,
+    AddCounters, AddCountersWord, Class, Height, Legacy, LegacyWord, Multiply, MultiplyWord,
     Operands, Operation, Scalar, ScalarWord, SetCounters, SetCountersWord, ShiftAWord, ShiftB,
     ShiftBWord, Which, ZeroSrc, ZeroSrcWord,
 };
+use cells::ByFile;
 
-fn clear_of(w: u32) -> Clear
+fn clear_of(w: u32) -> ByFile<bool>
     ensures { result ≡ clear_of w }
 {
-    Clear {
+    ByFile {
         a: (w >> 22) % 2 == 1,
         b: (w >> 23) % 2 == 1,
     }

@@ -4,19 +4,19 @@ ghost use Rattle.word.specs.Word.{read_word};
 ghost use Rattle.word.specs.Fields.{read_answer, word_answer};
 
 use crate::decode::operands_of;
-use crate::table::{Found, allows, find, lowest_stray};
-use crate::{Read, Refusal};
+use crate::table::{Entry, allows, find, lowest_stray};
+use crate::{Operands, Refusal};
 
-pub fn read_word(w: u32) -> Read
+// The operands, or refusal 2, or refusal 3 with its bit.
+pub fn read_word(w: u32) -> Result<Operands, Refusal>
     ensures operands { result ≡ read_word w }
     ensures numbers { read_answer result ≡ word_answer w }
 {
-    let Found::At(e) = find((w >> 24) % 256) else {
-        return Read::Refused(Refusal::UnknownOpcode);
+    let Some(Entry(_, allowed, class)) = find((w >> 24) % 256) else {
+        return Err(Refusal::UnknownOpcode);
     };
-    if allows(e.1, w) {
-        let class = e.2;
-        return Read::Operands(operands_of(class, w));
+    if allows(allowed, w) {
+        return Ok(operands_of(class, w));
     }
-    Read::Refused(Refusal::UnnamedBit(lowest_stray(e.1, w)))
+    Err(Refusal::UnnamedBit(lowest_stray(allowed, w)))
 }

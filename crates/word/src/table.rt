@@ -34,40 +34,33 @@ const TABLE: [Entry; ENTRIES] = [
     Entry(0x5D, 0x9FFFFF, Class::Scalar), // CMPDMAREG
 ];
 
-// The row of an opcode, as the table keeps it.
-#[derive(Clone, Copy)]
-pub(crate) enum Found {
-    At(Entry),
-    Nothing,
-}
-
-// The arms stand in the table's order. Each names its row by a fixed place, so nothing of the table is laid out when this runs.
-pub(crate) fn find(opcode: u32) -> Found
+// The row of an opcode. The arms stand in the table's order. Each names its row by a fixed place, so nothing of the table is laid out when this runs.
+pub(crate) fn find(opcode: u32) -> Option<Entry>
     ensures { result ≡ found_of (lookup table opcode) }
 {
     let rows = TABLE;
     match opcode {
-        0x26 => Found::At(rows[0]),
-        0x29 => Found::At(rows[1]),
-        0x34 => Found::At(rows[2]),
-        0x22 => Found::At(rows[3]),
-        0x23 => Found::At(rows[4]),
-        0x24 => Found::At(rows[5]),
-        0x25 => Found::At(rows[6]),
-        0x31 => Found::At(rows[7]),
-        0x32 => Found::At(rows[8]),
-        0x37 => Found::At(rows[9]),
-        0x38 => Found::At(rows[10]),
-        0x11 => Found::At(rows[11]),
-        0x17 => Found::At(rows[12]),
-        0x18 => Found::At(rows[13]),
-        0x35 => Found::At(rows[14]),
-        0x21 => Found::At(rows[15]),
-        0x46 => Found::At(rows[16]),
-        0x5B => Found::At(rows[17]),
-        0x5C => Found::At(rows[18]),
-        0x5D => Found::At(rows[19]),
-        _ => Found::Nothing,
+        0x26 => Some(rows[0]),
+        0x29 => Some(rows[1]),
+        0x34 => Some(rows[2]),
+        0x22 => Some(rows[3]),
+        0x23 => Some(rows[4]),
+        0x24 => Some(rows[5]),
+        0x25 => Some(rows[6]),
+        0x31 => Some(rows[7]),
+        0x32 => Some(rows[8]),
+        0x37 => Some(rows[9]),
+        0x38 => Some(rows[10]),
+        0x11 => Some(rows[11]),
+        0x17 => Some(rows[12]),
+        0x18 => Some(rows[13]),
+        0x35 => Some(rows[14]),
+        0x21 => Some(rows[15]),
+        0x46 => Some(rows[16]),
+        0x5B => Some(rows[17]),
+        0x5C => Some(rows[18]),
+        0x5D => Some(rows[19]),
+        _ => None,
     }
 }
 

@@ -4,4 +4,4 @@ use mathlib.Core.Path.{◌∙◌}
 use Rattle.cells.proofs.fill_rows.Goals as goal
 
 pub returns : goal.returns
-returns c = let a = c.args in c.fill_places.ensures ∙ rows_at a.width a.rows.first a.rows.count _ a.file.now
+returns c = let a = c.args in rw c.row_start-lo.ensures at c.fill_places.ensures ∙ rows_at a.width a.rows.first a.rows.count _ a.file.now

@@ -1,6 +1,6 @@
 -- `datum::read` meets its contract, kind by kind. Assumes nothing.
 -- the slices go by the kind
-use mathlib.Core.Path.{◌≡◌, sym, ap, ◌∙◌}
+use mathlib.Core.Path.{◌≡◌, ap, ◌∙◌}
 use Prim.Native.Nat.{ℕ}
 use native.Mathlib.Omega.{arith}
 use borrow.Author.Tests.{ne_eqb}
@@ -16,30 +16,14 @@ use Rattle.datum.proofs.read.Goals as goal
 told : (f : File) (format x : ℕ) {r : Datum} → r ≡ datum_of f format x → record { kind : r ≡ datum_of f format x; slices : datum_slices r ≡ number_slices f format x }
 told f format x e = record { kind = e; slices = ap datum_slices e ∙ kind_slices f (sign_of x) (exponent_of x) (mantissa_of format x) }
 
-pub returns-then-m-eq0 : goal.returns-then-m-eq0
-returns-then-m-eq0 c = let a = c.args in
-    let e : exponent_of a.x ≡ 255 = omega (arith, c.if-e.true) in
-    let z : mantissa_of a.format a.x ≡ 0 = sym c.mantissa-m.ensures.0 ∙ c.if-m-eq0.true in
-    told a.file a.format a.x (sym (simp (e, z)))
-
-pub returns-then-e : goal.returns-then-e
-returns-then-e c = let a = c.args in
-    let e : exponent_of a.x ≡ 255 = omega (arith, c.if-e.true) in
-    told a.file a.format a.x (simp (e, ne_eqb (mantissa_of a.format a.x) 0 (λ z. c.if-m-eq0.false (c.mantissa-m.ensures.0 ∙ z))))
-
-pub returns-then-e-eq0 : goal.returns-then-e-eq0
-returns-then-e-eq0 c = let a = c.args in
-    let e : exponent_of a.x ≡ 0 = omega (arith, c.if-e-eq0.true) in
-    told a.file a.format a.x (simp e)
-
 pub numbers-requires : goal.numbers-requires
 numbers-requires c = let a = c.args in
-    let e = finite_exponent a.x c.if-e-eq0.false c.if-e.false in
+    let e = finite_exponent a.x _ c.exponent-e.ensures c.if-e-eq0.false c.if-e-eq-SPECIAL.false in
     patterns_numbers _ a.file (sign_of a.x) (exponent_of a.x) (mantissa_of a.format a.x) (own_fields _ a.file a.format a.x c.build-p.ensures e.0 e.1) (mantissa_digits a.format a.x) e.1
 
 pub returns : goal.returns
 returns c = let a = c.args in
-    let e = finite_exponent a.x c.if-e-eq0.false c.if-e.false in
+    let e = finite_exponent a.x _ c.exponent-e.ensures c.if-e-eq0.false c.if-e-eq-SPECIAL.false in
     let p = patterns_split _ a.file (sign_of a.x) (exponent_of a.x) (mantissa_of a.format a.x) (own_fields _ a.file a.format a.x c.build-p.ensures e.0 e.1) (mantissa_digits a.format a.x) e.1 in
     told a.file a.format a.x
     (rw (ne_eqb (exponent_of a.x) 0 (λ z. omega (arith, e.0, z)), ne_eqb (exponent_of a.x) 255 (λ z. omega (arith, e.1, z))) (ap Finite (c.numbers.ensures ∙ p)))

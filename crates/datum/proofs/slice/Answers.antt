@@ -4,10 +4,6 @@ use lib.Ieee.{of_bits, neg, div, inf}
 use Rattle.datum.specs.Read.{slice_of}
 use Rattle.datum.proofs.slice.Goals as goal
 
-pub returns-in-Zero : goal.returns-in-Zero
-unfolding of_bits
-returns-in-Zero c = sym (ap (slice_of c.args.low) c.in-Zero.is)
-
 pub returns-then-negative : goal.returns-then-negative
 unfolding of_bits neg div
 returns-then-negative c = let a = c.args in

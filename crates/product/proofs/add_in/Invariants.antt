@@ -1,12 +1,9 @@
 -- `product::add_in` meets its contract: before column j the numbers have their sums. Assumes nothing.
 use mathlib.Core.Path.{◌≡◌}
-use Prim.Native.Nat.{◌+◌, ◌-◌, ◌≤◌}
+use Prim.Native.Nat.{◌+◌}
 use Rattle.cells.proofs.Parts.{gone}
 use Rattle.product.specs.Sums.{new_in}
 use Rattle.product.proofs.add_in.Given as goal
 
 abbrev pub invariant-loop-j : goal.invariant-loop-j
-invariant-loop-j l = (l.j ≤ 16) × (l.dst ≡ gone l.part (new_in l.part l.sum l.at l.initial.dst) l.initial.dst l.at (l.at + l.j))
-
-abbrev pub decreases-loop-j : goal.decreases-loop-j
-decreases-loop-j l = 16 - l.j
+invariant-loop-j l = (l.dst ≡ gone l.part (new_in l.part l.sum l.at l.initial.dst) l.initial.dst l.at (l.at + l.j))

@@ -1,70 +1,12 @@
--- `product::slices` meets its contract: while all numbers are ordinary, the loop overwrites `out` place by place. Assumes nothing.
-use mathlib.Core.Path.{◌≡◌, refl, sym, ap, ◌∙◌}
-use Prim.Native.Nat.{ℕ, ◌+◌, ◌*◌, zero-le}
-use lib.ListN.{length, get_or, length-set}
-use lib.Ieee.{nan}
-use Rattle.cells.specs.Cells.{over, between}
-use Rattle.cells.proofs.Cells.{both, over_between_none, turn}
-use Rattle.datum.specs.Read.{slice_of}
-use Rattle.datum.proofs.ReadSlices.{ordinary_datum}
-use Rattle.product.specs.Product.{phase_slice}
-use Rattle.product.specs.Sums.{slices_of}
-use Rattle.product.proofs.Sliced.{number, anew}
-use native.Mathlib.Omega.{arith}
+-- `product::slices` meets its contract: where all numbers are ordinary the first reading made their slices, and else the second. Assumes nothing.
+use mathlib.Core.Path.{◌∙◌}
+use Rattle.product.proofs.Sliced.{made}
 use Rattle.product.proofs.slices.Goals as goal
 
-pub overflow_mul-at : goal.overflow_mul-at
-overflow_mul-at c = omega arith
-
-pub loop-i-init : goal.loop-i-init
-loop-i-init c = (refl, zero-le, λ t. sym (over_between_none _ nan _ 0))
-
-pub overflow_add-x : goal.overflow_add-x
-overflow_add-x c = omega arith
-
-pub offset_bounds-src-at : goal.offset_bounds-src-at
-offset_bounds-src-at c = omega arith
-
-pub bounds-src-at : goal.bounds-src-at
-bounds-src-at c = omega arith
-
-pub offset_bounds-out-i : goal.offset_bounds-out-i
-offset_bounds-out-i c = omega arith
-
-pub bounds-out-i : goal.bounds-out-i
-bounds-out-i c = omega arith
-
-pub overflow_add-i : goal.overflow_add-i
-overflow_add-i c = omega arith
-
-pub loop-i-smaller : goal.loop-i-smaller
-loop-i-smaller c = omega arith
-
-pub loop-i-preserved : goal.loop-i-preserved
-unfolding phase_slice
-loop-i-preserved c = let args = c.args in
-    let inv = c.loop-i.invariant in
-    let slice = c.slice in (
-      length-set c.loop-i.out c.loop-i.i slice.result ∙ inv.0,
-      omega arith,
-      λ every.
-          let x = get_or args.src.now (args.first * 16 + c.loop-i.i) 0 in
-          let n = both c.loop-i.all c.ordinary-all.result every in
-          turn nan (number args.file args.format args.phase args.src.now args.first) args.out.now c.loop-i.out 0 c.loop-i.i slice.result zero-le (omega arith) (inv.2 n.0)
-          (slice.ensures ∙ (λ t. slice_of (c.takes_low-low.ensures t) ((c.read_ordinary.ensures.kind ∙ ordinary_datum args.file args.format x (sym c.ordinary-all.ensures ∙ n.1)) t))),
-    )
-
-pub slices_of_any-requires : goal.slices_of_any-requires
-slices_of_any-requires c = omega arith
-
 pub returns-then-not-all : goal.returns-then-not-all
-returns-then-not-all c = let args = c.args in
-    c.slices_of_any.ensures
-    ∙ anew args.file args.format args.phase args.src.now args.first c.loop-i.out args.out.now c.loop-i.invariant.0
+returns-then-not-all c = let a = c.args in
+    made a.by.file a.by.format a.by.phase a.src.now a.first c.each_slice.new.out a.out.now (c.each_slice.auto.out ∙ c.each_slice-all.auto.out) (λ p h. (c.each_slice.ensures p h).1.1)
 
 pub returns-else-not-all : goal.returns-else-not-all
-unfolding slices_of
-returns-else-not-all c = let args = c.args in
-    let end : c.loop-i.i ≡ length args.out.now = omega arith in
-    c.loop-i.invariant.2 c.if-not-all.false
-    ∙ ap (λ (n : ℕ). over (between 0 n) (number args.file args.format args.phase args.src.now args.first) args.out.now) end
+returns-else-not-all c = let a = c.args in
+    made a.by.file a.by.format a.by.phase a.src.now a.first c.each_slice-all.new.out a.out.now c.each_slice-all.auto.out (λ p h. let e = c.each_slice-all.ensures p h in e.1 (e.2 c.if-not-all.false))

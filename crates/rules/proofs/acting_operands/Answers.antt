@@ -1,16 +1,18 @@
 -- `rules::acting_operands` meets its contract. Assumes nothing.
--- the numbers go by the operands
-use mathlib.Core.Path.{◌≡◌, sym, ap, ◌∙◌}
-use Rattle.word.specs.Fields.{operands_answer, read_answer}
+use mathlib.Core.Path.{◌≡◌, refl, ap, ◌∙◌}
+use Rattle.std.specs.Prelude.{Result, Ok, Err}
+use Rattle.std.specs.Result.{result_unwrap_or}
 use Rattle.word.specs.declared.Operands.{Operands}
-use Rattle.word.specs.declared.Read.{Read}
-use Rattle.word.specs.declared.Read.TheVariants as read
-use Rattle.rules.specs.After.{acting_of, acting_answer}
+use Rattle.word.specs.declared.Operands.TheVariants as operands
+use Rattle.word.specs.declared.Refusal.{Refusal}
+use Rattle.word.specs.Fields.{operands_answer}
+use Rattle.rules.specs.After.{acting_of}
 use Rattle.rules.proofs.Reading.{acting_numbers}
 use Rattle.rules.proofs.acting_operands.Goals as goal
 
-told : (r : Read) (f : Operands) → r ≡ read.Operands f → record { operands : f ≡ acting_of r; numbers : operands_answer f ≡ acting_answer (read_answer r) }
-told r f e = let q : f ≡ acting_of r = sym (ap acting_of e) in record { operands = q; numbers = ap operands_answer q ∙ acting_numbers r }
+told : (r : Result Operands Refusal) → result_unwrap_or r operands.NoEffect ≡ acting_of r
+told (Ok f) = refl
+told (Err r) = refl
 
-pub returns-in-Operands : goal.returns-in-Operands
-returns-in-Operands c = told _ _ c.in-Operands.is
+pub returns : goal.returns
+returns c = let q : c.unwrap_or.result ≡ acting_of c.args.read = c.unwrap_or.ensures ∙ told c.args.read in record { operands = q; numbers = ap operands_answer q ∙ acting_numbers c.args.read }

@@ -1,14 +1,10 @@
--- `run::run_fields` meets its contract. Assumes nothing.
+-- `run::run_fields` meets its contract: the fields that are left, from what the loop has come to, do what all of the job do. Assumes nothing.
 use Rattle.run.proofs.Running.{Running}
+use Rattle.job.specs.Fields.{fields_from}
 use Rattle.job.specs.Settings.{choices_in}
 use Rattle.control.specs.Halves.{joined}
 use Rattle.cells.specs.State.{state}
-use lib.ListN.{length}
-use Prim.Native.Nat.{◌-◌}
 use Rattle.run.proofs.run_fields.Given as goal
 
-abbrev pub invariant-loop-at : goal.invariant-loop-at
-invariant-loop-at l = Running l.job (state l.initial.srca l.initial.srcb l.initial.dst l.initial.registers) (joined l.k (choices_in l.fixed)) l.at l.count (state l.srca l.srcb l.dst l.registers)
-
-abbrev pub decreases-loop-at : goal.decreases-loop-at
-decreases-loop-at l = length l.job - l.at
+abbrev pub invariant-loop-f : goal.invariant-loop-f
+invariant-loop-f l = Running l.job (state l.initial.srca l.initial.srcb l.initial.dst l.initial.registers) (joined l.k (choices_in l.fixed)) l.count (state l.srca l.srcb l.dst l.registers) (fields_from l.f-iterator.job.now l.f-iterator.at)

@@ -24,7 +24,7 @@ returns-then-tag-len-2 c = let a = c.args in
     let job = a.job.now in
     let tag = eqb (get_or job a.at 0) 3 in
     let len = eqb c.read2-len.result 6 in
-    let head = both tag len (both (tag && len) (ltb c.wide.result thread_registers) c.if-tag-len-2.true).0 in
+    let head = both tag len (both (tag && len) (ltb c.from.result thread_registers) c.if-tag-len-2.true).0 in
     field_answered _ _ _ (field_tagged job a.at 3 6 _ (eqb-true _ _ head.0) (sym (eqb-true _ _ head.1) ∙ c.read2-len.ensures.0) (omega arith) c.read_load_register.ensures)
 
 pub returns : goal.returns

@@ -27,7 +27,7 @@ inside a f d₀ lo hi from to d i b m g h e room =
     (omega arith, omega arith, omega arith)
 
 pub loop-i-init : goal.loop-i-init
-loop-i-init c = going_start _ _ _ _ _ _ _ c.requires.0 c.cut_in-i.ensures c.cut_in-end.ensures
+loop-i-init c = going_start _ _ _ _ _ _ _ c.requires.0 c.cut_in-start.ensures c.cut_in-end.ensures
 
 pub overflow_add-base : goal.overflow_add-base
 overflow_add-base c = omega (arith, (inside _ _ _ _ _ _ _ _ _ _ _ c.loop-i.invariant c.loop-i-test.true c.requires.1 c.requires.2).1)
@@ -55,9 +55,6 @@ offset_bounds-file-i-in-loop-i c = omega (arith, first_inside _ _ _ _ _ _ _ _ _ 
 
 pub bounds-file-i-in-loop-i : goal.bounds-file-i-in-loop-i
 bounds-file-i-in-loop-i c = going_inside _ _ _ _ _ _ _ _ _ c.loop-i.invariant c.loop-i-test.true
-
-pub loop-i-smaller : goal.loop-i-smaller
-loop-i-smaller c = omega arith
 
 pub loop-i-preserved : goal.loop-i-preserved
 loop-i-preserved c = let l = c.loop-i in

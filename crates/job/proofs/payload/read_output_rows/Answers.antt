@@ -9,8 +9,8 @@ returns-then-p-ne3 c = simp (ne_eqb _ _ c.if-p-ne3.true)
 
 pub returns-then-rows_right : goal.returns-then-rows_right
 unfolding output_rows
-returns-then-rows_right c = simp (eq-eqb _ _ c.if-p-ne3.false, ← c.read2.ensures.0, ← c.wide.ensures.0, ← c.rows_right.ensures, c.if-rows_right.true)
+returns-then-rows_right c = simp (eq-eqb _ _ c.if-p-ne3.false, ← c.read2.ensures.0, ← c.from.ensures, ← c.rows_right.ensures, c.if-rows_right.true)
 
 pub returns : goal.returns
 unfolding output_rows
-returns c = simp (eq-eqb _ _ c.if-p-ne3.false, ← c.read2.ensures.0, ← c.wide.ensures.0, ← c.rows_right.ensures, c.if-rows_right.false)
+returns c = simp (eq-eqb _ _ c.if-p-ne3.false, ← c.read2.ensures.0, ← c.from.ensures, ← c.rows_right.ensures, c.if-rows_right.false)

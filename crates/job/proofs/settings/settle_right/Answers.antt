@@ -4,4 +4,4 @@ use Rattle.job.proofs.settings.settle_right.Goals as goal
 
 pub returns : goal.returns
 unfolding settled_core
-returns c = simp (c.read_shared-settings.ensures, c.settle_own-x.ensures, c.settle_own-y.ensures, c.settle_own-z.ensures)
+returns c = simp (c.read_shared.ensures, c.settle_own.ensures, c.settle_own-2.ensures, c.settle_own-3.ensures)

@@ -1,14 +1,22 @@
 -- `compose::push_bit` meets its contract. Assumes nothing.
 use mathlib.Core.Path.{◌∙◌}
-use borrow.Author.Tests.{eq-eqb, ne_eqb}
+use native.Mathlib.Omega.{arith}
+use Rattle.std.specs.Prelude.{Some}
 use Rattle.lines.specs.Text.{word_bit, decimal, wrote, bit_text}
-use Rattle.lines.proofs.Texts.{wrote_append}
+use Rattle.lines.proofs.Writing.{wrote_append, bit_short}
 use Rattle.lines.proofs.compose.push_bit.Goals as goal
 
-pub returns-then-number-eq3 : goal.returns-then-number-eq3
+pub returns-in-Some-clause-wrote : goal.returns-in-Some-clause-wrote
 unfolding bit_text
-returns-then-number-eq3 c = c.push_decimal.ensures ∙ rw (c.push_word.ensures, eq-eqb _ 3 c.if-number-eq3.true) (wrote_append _ word_bit (decimal _))
+returns-in-Some-clause-wrote c = c.push_decimal.ensures ∙ rw (c.push_word.ensures, c.in-Some.is, c.from.ensures) (wrote_append _ word_bit (decimal _))
 
-pub returns : goal.returns
+pub returns-in-Some-clause-short : goal.returns-in-Some-clause-short
+returns-in-Some-clause-short c = rw c.in-Some.is (bit_short (Some c.in-Some.bit) (omega arith))
+
+pub returns-in_default-clause-wrote : goal.returns-in_default-clause-wrote
 unfolding bit_text wrote
-returns c = rw (ne_eqb _ 3 c.if-number-eq3.false)
+returns-in_default-clause-wrote c = rw c.in_default.is
+
+pub returns-in_default-clause-short : goal.returns-in_default-clause-short
+unfolding bit_text
+returns-in_default-clause-short c = rw c.in_default.is (omega arith)

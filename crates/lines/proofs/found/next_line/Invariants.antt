@@ -1,12 +1,7 @@
--- `found::next_line` meets its contract. Assumes nothing.
-use Rattle.lines.specs.Cursor.{next_from}
-use Rattle.job.proofs.Walk.{Reached}
-use lib.ListN.{length}
-use Prim.Native.Nat.{◌-◌}
+-- `found::next_line` meets its contract: what the fields that are left give next is what all of them do. Assumes nothing.
+use Rattle.job.specs.Fields.{fields_from}
+use Rattle.lines.proofs.Cursors.{Ahead}
 use Rattle.lines.proofs.found.next_line.Given as goal
 
-abbrev pub invariant-loop-at : goal.invariant-loop-at
-invariant-loop-at l = Reached next_from l.job l.initial.at l.initial.line l.at l.line
-
-abbrev pub decreases-loop-at : goal.decreases-loop-at
-decreases-loop-at l = length l.job - l.at
+abbrev pub invariant-loop-f : goal.invariant-loop-f
+invariant-loop-f l = Ahead l.job l.fn.from.at l.fn.from.line (fields_from l.f-iterator.job.now l.f-iterator.at) l.line

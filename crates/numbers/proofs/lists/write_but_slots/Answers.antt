@@ -26,8 +26,8 @@ returns-then-n-ne-RECORD c = simp (ne_eqb _ _ c.if-n-ne-RECORD.true)
 pub returns : goal.returns
 returns c =
     let three : length c.args.c.threads ≡ thread_count = omega arith in
-    let s = outside_shared c.shared_numbers-shared.ensures c.put.ensures in
-    let x = outside_thread 0 (c.own_numbers-first.ensures ∙ own c.args.c 0 _ three refl) s c.put-2.ensures in
-    let y = outside_thread 1 (c.own_numbers-second.ensures ∙ own c.args.c 1 _ three refl) x c.put-3.ensures in
-    let z = outside_thread 2 (c.own_numbers-third.ensures ∙ own c.args.c 2 _ three refl) y c.put-4.ensures in
+    let s = outside_shared c.shared_numbers.ensures c.put.ensures in
+    let x = outside_thread 0 (c.own_numbers.ensures ∙ own c.args.c 0 _ three refl) s c.put-2.ensures in
+    let y = outside_thread 1 (c.own_numbers-2.ensures ∙ own c.args.c 1 _ three refl) x c.put-3.ensures in
+    let z = outside_thread 2 (c.own_numbers-3.ensures ∙ own c.args.c 2 _ three refl) y c.put-4.ensures in
     outside_all c.args.c z c.if-n-ne-RECORD.false

@@ -2,9 +2,6 @@
 use Rattle.rules.specs.Rules.{lowest}
 use Rattle.precheck.proofs.judging.judge_write.Goals as goal
 
-pub returns-in-LoadSrc : goal.returns-in-LoadSrc
-returns-in-LoadSrc c = λ s. simp (c.judge_bank.ensures s, c.in-LoadSrc.is)
-
 pub returns-in-LoadDst : goal.returns-in-LoadDst
 unfolding lowest
 returns-in-LoadDst c = λ s. simp c.in-LoadDst.is

@@ -1,10 +1,6 @@
 -- `precheck::marking::mark_src` meets its contract. Assumes nothing.
-use native.Mathlib.Omega.{arith}
 use Rattle.precheck.specs.Marks.{mark_src}
 use Rattle.precheck.proofs.marking.mark_src.Goals as goal
-
-pub overflow_add-hi : goal.overflow_add-hi
-overflow_add-hi c = record { fits = omega (arith, c.first_loaded-lo.ensures.1) }
 
 pub returns-in-A : goal.returns-in-A
 unfolding mark_src

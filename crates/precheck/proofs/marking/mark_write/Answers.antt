@@ -2,9 +2,6 @@
 use Rattle.precheck.specs.Marks.{mark_dst, mark_register}
 use Rattle.precheck.proofs.marking.mark_write.Goals as goal
 
-pub returns-in-LoadSrc : goal.returns-in-LoadSrc
-returns-in-LoadSrc c = λ s. simp c.in-LoadSrc.is (c.mark_src.ensures s c.args.dst.now c.args.registers.now)
-
 pub returns-in-LoadDst : goal.returns-in-LoadDst
 unfolding mark_dst
 returns-in-LoadDst c = λ s. simp (c.mark_span.ensures, c.in-LoadDst.is)

@@ -11,4 +11,4 @@ returns-then-clear c = let args = c.args in
 pub returns-else-clear : goal.returns-else-clear
 returns-else-clear c = let args = c.args in
     let off = both_off args.clear.a args.clear.b c.if-clear.false in
-    λ d r. cleared (marks args.srca.now args.srcb.now d r) _ (given_off args.a args.keep_a off.0 _) (given_off args.b args.keep_b off.1 _)
+    λ d r. cleared (marks args.srca.now args.srcb.now d r) _ (given_off args.k.a args.k.settings.keep.a off.0 _) (given_off args.k.b args.k.settings.keep.b off.1 _)

@@ -1,9 +1,9 @@
 -- `rules::multiply::judge_multiply` meets its contract. Assumes nothing.
 -- the rules by the fields of the word
+use Rattle.std.specs.Prelude.{Result, ⊤}
 use Rattle.rules.proofs.ByCore.{row_dst_by}
 use Rattle.rules.specs.Multiply.{multiply_modes, modelled, row_dst}
 use Rattle.rules.specs.Rules.{both_owned, Judged, ◌when◌, operand_rules, lowest, verdict_answer, lowest_answer}
-use Rattle.rules.specs.declared.Verdict.{Verdict}
 use Rattle.word.specs.declared.Refusal.TheVariants.{UndefinedMode, UnmodelledSettings, BankOwner, DstRow}
 use Rattle.word.specs.declared.Multiply.{Multiply}
 use Rattle.word.specs.declared.MultiplyWord.{MultiplyWord}
@@ -22,6 +22,7 @@ use Prim.Native.Nat.{ℕ}
 use borrow.Author.Tests.{le-leb, lt-leb}
 use mathlib.Core.Path.{◌≡◌, subst, ◌∙◌}
 use Rattle.rules.proofs.multiply.judge_multiply.Goals as goal
+use Rattle.word.specs.declared.Refusal.{Refusal}
 
 abbrev ruled : Control → ℕ → Multiply → List Judged
 ruled c t m =
@@ -31,7 +32,7 @@ ruled c t m =
     (DstRow when leb (row_count (width_of c.settings)) (row_dst c t m.height m.dst)) ∷
     []
 
-told : (k : Core) (t : ℕ) (w : MultiplyWord) {m : Multiply} {v : Verdict} → m ≡ multiply_of w
+told : (k : Core) (t : ℕ) (w : MultiplyWord) {m : Multiply} {v : Result ⊤ Refusal} → m ≡ multiply_of w
     → ((s : ℕ → Choice) → v ≡ lowest (ruled (joined k s) t m))
     → record {
       verdict : (s : ℕ → Choice) → v ≡ lowest (operand_rules (joined k s) t (operands.Multiply w));

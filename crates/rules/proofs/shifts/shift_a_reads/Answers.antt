@@ -5,4 +5,4 @@ use Rattle.rules.proofs.shifts.shift_a_reads.Goals as goal
 
 pub returns : goal.returns
 unfolding joined reads_of
-returns c = λ s w. simp (c.no_reads-r.ensures, c.bank_row.ensures)
+returns c = λ s w. simp (c.no_reads.ensures, c.bank_row.ensures)

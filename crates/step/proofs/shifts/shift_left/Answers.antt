@@ -44,12 +44,6 @@ offset_bounds-file-p-else-p-eq15-2 c = let e : length c.loop-p.file ≡ length c
 pub bounds-file-p-else-p-eq15-2 : goal.bounds-file-p-else-p-eq15-2
 bounds-file-p-else-p-eq15-2 c = let e : length c.loop-p.file ≡ length c.args.file.now = ap length c.loop-p.invariant.0 ∙ length_over _ _ _ in omega arith
 
-pub overflow_add-p : goal.overflow_add-p
-overflow_add-p c = let e : length c.loop-p.file ≡ length c.args.file.now = ap length c.loop-p.invariant.0 ∙ length_over _ _ _ in omega arith
-
-pub loop-p-smaller : goal.loop-p-smaller
-loop-p-smaller c = omega arith
-
 pub loop-p-preserved : goal.loop-p-preserved
 loop-p-preserved c = let l = c.loop-p in
     let a = c.args in

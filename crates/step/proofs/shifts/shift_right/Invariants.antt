@@ -8,6 +8,3 @@ use Rattle.step.proofs.shifts.shift_right.Given as goal
 
 abbrev pub invariant-loop-p : goal.invariant-loop-p
 invariant-loop-p l = (l.file ≡ over (between l.lo l.p) (from_right l.gap l.initial.file) l.initial.file) × (l.lo ≤ l.p) × (l.p ≤ l.hi) × ((l.p % 16 ≡ 0 → ⊥) → l.held ≡ get_or l.initial.file (l.p + l.gap - 1) 0)
-
-abbrev pub decreases-loop-p : goal.decreases-loop-p
-decreases-loop-p l = l.hi - l.p

@@ -1,0 +1,5 @@
+-- The number of digits falls.
+use Rattle.lines.proofs.Text.+push_hex.Given as goal
+
+abbrev pub decreases-push_hex : goal.decreases-push_hex
+decreases-push_hex l = l.digits

@@ -1,8 +1,0 @@
--- `compose::empty` meets its contract. Assumes nothing.
-use mathlib.Core.Path.{refl}
-use Rattle.lines.specs.Text.{empty_text}
-use Rattle.lines.proofs.compose.empty.Goals as goal
-
-pub returns : goal.returns
-unfolding empty_text
-returns c = refl

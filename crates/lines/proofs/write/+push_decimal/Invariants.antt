@@ -1,5 +1,0 @@
--- The number falls: what is written before the last digit is a tenth of it.
-use Rattle.lines.proofs.write.+push_decimal.Given as goal
-
-abbrev pub decreases-push_decimal : goal.decreases-push_decimal
-decreases-push_decimal l = l.n

@@ -1,5 +1,0 @@
--- The number of digits falls.
-use Rattle.lines.proofs.write.+push_hex.Given as goal
-
-abbrev pub decreases-push_hex : goal.decreases-push_hex
-decreases-push_hex l = l.digits
