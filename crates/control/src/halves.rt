@@ -116,3 +116,22 @@ pub fn core_with(k: Core, thread: u8, own: Own, clear: ByFile<bool>, last: u8) -
         last,
     }
 }
+
+// The same where it stands: only the thread's own numbers are written, the banks where one is cleared, and the last SrcA row.
+#[inline(always)]
+pub fn set_core(k: &mut Core, thread: u8, own: Own, clear: ByFile<bool>, last: u8)
+    ensures { k.new ≡ core_with k.old thread own clear last }
+{
+    if clear.a | clear.b {
+        let keep = k.settings.keep;
+        k.a = clear_if(k.a, clear.a, keep.a);
+        k.b = clear_if(k.b, clear.b, keep.b);
+    }
+    match thread {
+        0 => k.x = own,
+        1 => k.y = own,
+        2 => k.z = own,
+        _ => {}
+    }
+    k.last = last;
+}

@@ -16,7 +16,8 @@ fn run_job<W: Write>(out: &mut W, job: &[u8]) -> End
     ensures { result ≢ End.Unwritten → (result ≡ answer_end (run_of job.now zeros).outcome)
         × Appends (W.contents out.old) (W.contents out.new) (bytes_printed job.now) }
 {
-    show::told(show::run_on_zeros(out, job).map(|outcome| show::answer_end(outcome)))
+    let (outcome, written) = show::run_on_zeros(out, job);
+    show::told(show::answer_end(outcome), written)
 }
 
 fn main(rt: HostRuntime) {

@@ -6,7 +6,7 @@ ghost use Rattle.lines.specs.Text.{wrote, made, Holds, text_of, line_of, count_t
 use crate::Text;
 use crate::found::What;
 use cells::Width;
-use word::Refused;
+use word::{Refusal, Refused};
 
 // `D 7 00000000 ..`, in the BF16 mode `D 7 0000 ..`, or `G 0 3 00000009`, from the final state.
 pub(crate) fn line_text(what: What, dst: &[u32], registers: &[u32]) -> Text
@@ -50,11 +50,11 @@ pub(crate) fn count_text(word: &[u8], count: usize) -> Text
 }
 
 // ` bit 16` of a refusal 3; of any other number nothing.
-fn push_bit(t: &mut Text, bit: Option<u8>)
-    ensures wrote { t.new ≡ wrote t.old (bit_text bit) }
-    ensures short { length (bit_text bit) ≤ 40 }
+fn push_bit(t: &mut Text, refusal: Refusal)
+    ensures wrote { t.new ≡ wrote t.old (bit_text (bit_of refusal)) }
+    ensures short { length (bit_text (bit_of refusal)) ≤ 40 }
 {
-    if let Some(bit) = bit {
+    if let Some(bit) = refusal.bit() {
         t.push_word(b" bit ");
         t.push_decimal(usize::from(bit));
     }
@@ -70,7 +70,7 @@ pub(crate) fn refused_text(refused: Refused) -> Text
     t.push_decimal(usize::from(refused.refusal.number()));
     t.push_word(b" at ");
     t.push_decimal(refused.place);
-    push_bit(&mut t, refused.refusal.bit());
+    push_bit(&mut t, refused.refusal);
     t.push(b'\n');
     t
 }

@@ -1,6 +1,6 @@
 -- The same outcome and state print the same. Assumes nothing.
 use Rattle.std.specs.Prelude.{Result}
-use Rattle.std.proofs.Common.{◌≡◌, subst, List, ℕ}
+use Rattle.std.proofs.Common.{◌≡◌, refl, subst, List, ℕ}
 use Rattle.cells.specs.State.{State}
 use Rattle.run.specs.Run.{Ran}
 use Rattle.lines.specs.Printed.{printed_by, printed_of}
@@ -12,3 +12,6 @@ pub same_bytes : (job : List ℕ) (r : Ran) (o : Result ℕ Refused) (s : State)
 same_bytes job r o s A same left h =
     subst (λ (p : Result ℕ Refused). A (bytes_of (printed_by job p r.state))) same
     (subst (λ (t : State). A (bytes_of (printed_by job o t))) left h)
+
+pub printed_alike : (job : List ℕ) (r : Ran) (o : Result ℕ Refused) (s : State) → o ≡ r.outcome → s ≡ r.state → bytes_of (printed_by job o s) ≡ bytes_of (printed_of job r)
+printed_alike job r o s same left = same_bytes job r o s (λ bs. bytes_of (printed_by job o s) ≡ bs) same left refl

@@ -32,11 +32,11 @@ pub fn answer_end(answer: Result<usize, Refused>) -> End
 }
 
 // The end as the caller was told it.
-pub fn told(end: io::Result<End>) -> End
-    ensures { result ≡ told_end end }
+pub fn told(end: End, written: io::Result<()>) -> End
+    ensures { result ≡ told_end end written }
 {
-    match end {
-        Ok(end) => end,
+    match written {
+        Ok(()) => end,
         Err(_) => End::Unwritten,
     }
 }

@@ -4,7 +4,7 @@
 mod end;
 mod input;
 
-ghost use Rattle.std.specs.Prelude.{◌≡◌, List, ℕ, OnOk, IfOk};
+ghost use Rattle.std.specs.Prelude.{◌≡◌, ◌≤◌, List, ℕ, OnOk, length};
 ghost use Rattle.std.specs.Io.KnownBytes.{Appends};
 ghost use Rattle.cells.specs.State.{state};
 ghost use Rattle.run.specs.Run.{run_of};
@@ -19,10 +19,14 @@ use std::io;
 use std::io::Write;
 use word::Refused;
 
-// Where it succeeds, the text stands after what the writer held.
+// Where it succeeds, the text stands after what the writer held. A text that claims more bytes than it has is refused, and nothing is written.
 pub fn put<W: Write>(out: &mut W, t: Text) -> io::Result<()>
-    ensures { OnOk result (Appends (W.contents out.old) (W.contents out.new) (bytes_in t)) }
+    ensures written { OnOk result (Appends (W.contents out.old) (W.contents out.new) (bytes_in t)) }
+    ensures whole { OnOk result (t.len ≤ length t.bytes) }
 {
+    if t.bytes.len() < t.len {
+        return Err(io::ErrorKind::InvalidInput.into());
+    }
     out.write_all(t.as_bytes())
 }
 
@@ -44,16 +48,16 @@ pub fn put_run<W: Write>(
     Ok(())
 }
 
-// Runs a job on files of zeros and writes all that it prints; where that succeeds, the outcome is the run's.
-pub fn run_on_zeros<W: Write>(out: &mut W, job: &[u8]) -> io::Result<Result<usize, Refused>>
-    ensures outcome { IfOk result (λ o. o ≡ (run_of job.now zeros).outcome) }
-    ensures written { OnOk result (Appends (W.contents out.old) (W.contents out.new) (bytes_printed job.now)) }
+// Runs a job on files of zeros and writes all that it prints: the run's outcome, and whether all was written.
+pub fn run_on_zeros<W: Write>(out: &mut W, job: &[u8]) -> (Result<usize, Refused>, io::Result<()>)
+    ensures outcome { result.0 ≡ (run_of job.now zeros).outcome }
+    ensures written { OnOk result.1 (Appends (W.contents out.old) (W.contents out.new) (bytes_printed job.now)) }
 {
     let mut srca = [0u32; cells::SRC_NUMBERS];
     let mut srcb = [0u32; cells::SRC_NUMBERS];
     let mut dst = [0u32; cells::DST_NUMBERS];
     let mut registers = [0u32; cells::REGISTERS];
     let outcome = run::run(job, &mut srca, &mut srcb, &mut dst, &mut registers);
-    put_run(out, job, outcome, &dst, &registers)?;
-    Ok(outcome)
+    let written = put_run(out, job, outcome, &dst, &registers);
+    (outcome, written)
 }

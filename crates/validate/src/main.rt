@@ -17,7 +17,8 @@ fn check_job<W: Write>(out: &mut W, job: &[u8]) -> End
         × Appends (W.contents out.old) (W.contents out.new) (checked_text (precheck_of job.now)) }
 {
     let checked = precheck::precheck(job);
-    show::told(show::put(out, lines::checked_text(checked)).map(|()| show::answer_end(checked)))
+    let written = show::put(out, lines::checked_text(checked));
+    show::told(show::answer_end(checked), written)
 }
 
 fn main(rt: HostRuntime) {

@@ -20,8 +20,7 @@ fn run_next<R: Read, W: Write>(from: &mut R, out: &mut W, index: u64) -> Option<
     fill(from, job)?;
     writeln!(out, "-- {index}").ok()?;
     // A refusal is printed like any other answer.
-    let _ = show::run_on_zeros(out, job).ok()?;
-    Some(())
+    show::run_on_zeros(out, job).1.ok()
 }
 
 // No more than 65,536 jobs.

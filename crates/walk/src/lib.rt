@@ -38,15 +38,19 @@ pub fn first_loaded(k: Core, file: File, rows: Span) -> usize
     bank_start(k, file) as usize + rows.first as usize
 }
 
-// After an instruction; its address slots stand in the settings' bytes. It becomes part of each walk, as the functions that it calls become part of it: so
-// the core is not handed on through memory.
+// After an instruction; its address slots stand in the settings' bytes. It becomes part of each walk, as the functions that it calls become part of it, and
+// writes the core where it stands: so the core is not handed on through memory, and in the run, which lends it to each instruction, not put together anew.
 #[inline(always)]
 pub fn advance(k: &mut Core, fixed: &[u8; job::SETTINGS_BYTES], thread: u8, f: Operands)
     ensures { joined k.new (choices_in fixed.now) ≡ record_after (joined k.old (choices_in fixed.now)) thread f }
 {
     if !rules::leaves_record(f) {
         let slot = job::slot_at(fixed, thread, rules::slot_number(f));
-        *k = rules::core_after(*k, thread, slot, f);
+        let x = control::own_at(*k, thread);
+        let own = rules::own_after(x, slot, f);
+        let clear = rules::clear_by(f);
+        let last = rules::last_after(x, k.last, f);
+        control::set_core(k, thread, own, clear, last);
     }
 }
 

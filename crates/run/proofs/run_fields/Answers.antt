@@ -21,7 +21,7 @@ loop-f-preserved-in-Ok-Settings c = turn_on c.loop-f.invariant c.in-Some.ensures
 
 pub loop-f-preserved-in-Ok-Issue : goal.loop-f-preserved-in-Ok-Issue
 loop-f-preserved-in-Ok-Issue c = let h = choices_in c.loop-f.fixed in
-    issue_on c.loop-f.invariant c.in-Some.ensures.steps (kind_is c.in-Ok-Issue.is (rw c.in-Ok-Issue.is at c.in-Ok-Issue.field-0-is)) (c.acting_operands-operands.ensures.operands ∙ acting_is _ _ c.read_word.ensures.operands) (c.act.ensures h) c.advance.ensures
+    issue_on c.loop-f.invariant c.in-Some.ensures.steps (kind_is c.in-Ok-Issue.is (rw c.in-Ok-Issue.is at c.in-Ok-Issue.field-0-is)) (c.acting_operands-operands.ensures.operands ∙ acting_is _ _ c.read_word.ensures.operands) (c.act_under.ensures h) c.advance.ensures
 
 pub loop-f-preserved-in-Ok-HandOver : goal.loop-f-preserved-in-Ok-HandOver
 unfolding field_control performed

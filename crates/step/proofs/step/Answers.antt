@@ -56,24 +56,24 @@ returns-then-thread-ge-THREADS c = let a = c.args in
     let size : sized s ≡ true = sym c.right_sizes.ensures ∙ c.if-not-right_sizes.false in
     rw c.refused-then-thread-ge-THREADS.ensures (told a.control a.thread a.word s _ _ (by_thread a.control a.thread a.word s size c.if-thread-ge-THREADS.true))
 
-pub returns-in-Err : goal.returns-in-Err
-returns-in-Err c = let a = c.args in
+pub returns-in_default : goal.returns-in_default
+returns-in_default c = let a = c.args in
     let s = state a.srca.now a.srcb.now a.dst.now a.registers.now in
     let size : sized s ≡ true = sym c.right_sizes.ensures ∙ c.if-not-right_sizes.false in
     let range : in_range a.control ≡ true = sym c.in_range.ensures ∙ c.if-not-in_range.false in
-    let is = judged_refused a.control a.thread a.word _ (sym c.read_word.ensures.operands ∙ c.in-Err.is) in
-    rw c.refused-in-Err.ensures
+    let is = judged_refused a.control a.thread a.word _ (sym c.read_word-read.ensures.operands ∙ c.in_default.is) in
+    rw (c.with_record.ensures, c.verdict_of.ensures.verdict, c.in_default.is)
     (told a.control a.thread a.word s _ _ (by_rule a.control a.thread a.word s size range c.if-thread-ge-THREADS.false _ is))
 
-pub returns-in-Err-perform : goal.returns-in-Err-perform
-returns-in-Err-perform c = let a = c.args in
+pub returns-in-Err : goal.returns-in-Err
+returns-in-Err c = let a = c.args in
     let s = state a.srca.now a.srcb.now a.dst.now a.registers.now in
     let h = choices_of a.control in
     let same = back a.control (omega arith) c.from-k.ensures in
     let p = c.perform in
-    rw c.refused-in-Err-perform.ensures
+    rw c.refused-in-Err.ensures
     (told a.control a.thread a.word s _ _
-    (performed_refused a.control a.thread a.word s (sym c.right_sizes.ensures ∙ c.if-not-right_sizes.false) (sym c.in_range.ensures ∙ c.if-not-in_range.false) c.if-thread-ge-THREADS.false c.in-Ok.f (sym c.read_word.ensures.operands ∙ c.in-Ok.is) _ same _ (p.ensures.verdict h) _ (p.ensures.left h) _ c.in-Err-perform.is))
+    (performed_refused a.control a.thread a.word s (sym c.right_sizes.ensures ∙ c.if-not-right_sizes.false) (sym c.in_range.ensures ∙ c.if-not-in_range.false) c.if-thread-ge-THREADS.false c.in-Ok.f (sym c.read_word-read.ensures.operands ∙ c.in-Ok.is) _ same _ (p.ensures.verdict h) _ (p.ensures.left h) _ c.in-Err.is))
 
 pub returns-then-leaves_record : goal.returns-then-leaves_record
 returns-then-leaves_record c = let a = c.args in
@@ -83,7 +83,7 @@ returns-then-leaves_record c = let a = c.args in
     let p = c.perform in
     let stays = leaves (joined c.from-k.result h) a.thread c.in-Ok.f (sym c.leaves_record.ensures ∙ c.if-leaves_record.true) in
     told a.control a.thread a.word s _ _
-    (performed_done a.control a.thread a.word s (sym c.right_sizes.ensures ∙ c.if-not-right_sizes.false) (sym c.in_range.ensures ∙ c.if-not-in_range.false) c.if-thread-ge-THREADS.false c.in-Ok.f (sym c.read_word.ensures.operands ∙ c.in-Ok.is) _ same _ (p.ensures.verdict h) _ (p.ensures.left h) c.in_default.is _ (sym same ∙ sym stays))
+    (performed_done a.control a.thread a.word s (sym c.right_sizes.ensures ∙ c.if-not-right_sizes.false) (sym c.in_range.ensures ∙ c.if-not-in_range.false) c.if-thread-ge-THREADS.false c.in-Ok.f (sym c.read_word-read.ensures.operands ∙ c.in-Ok.is) _ same _ (p.ensures.verdict h) _ (p.ensures.left h) c.in_default-perform.is _ (sym same ∙ sym stays))
 
 pub returns : goal.returns
 returns c = let a = c.args in
@@ -94,4 +94,4 @@ returns c = let a = c.args in
     let slot = slot_under same a.thread c.in-Ok.f c.slot_used-slot.ensures c.thread_at.ensures c.slot_number.ensures in
     let after = c.core_after.ensures h slot in
     told a.control a.thread a.word s _ _
-    (performed_done a.control a.thread a.word s (sym c.right_sizes.ensures ∙ c.if-not-right_sizes.false) (sym c.in_range.ensures ∙ c.if-not-in_range.false) c.if-thread-ge-THREADS.false c.in-Ok.f (sym c.read_word.ensures.operands ∙ c.in-Ok.is) _ same _ (p.ensures.verdict h) _ (p.ensures.left h) c.in_default.is _ (c.with_core.ensures ∙ after))
+    (performed_done a.control a.thread a.word s (sym c.right_sizes.ensures ∙ c.if-not-right_sizes.false) (sym c.in_range.ensures ∙ c.if-not-in_range.false) c.if-thread-ge-THREADS.false c.in-Ok.f (sym c.read_word-read.ensures.operands ∙ c.in-Ok.is) _ same _ (p.ensures.verdict h) _ (p.ensures.left h) c.in_default-perform.is _ (c.with_core.ensures ∙ after))

@@ -1,10 +1,9 @@
 -- `walk::advance` meets its contract. Assumes nothing.
-use mathlib.Core.Path.{sym, ap, ◌∙◌}
-use Prim.Native.Nat.{ℕ}
-use Rattle.control.specs.Record.{thread_at, slot_used}
+use mathlib.Core.Path.{sym, ◌∙◌}
 use Rattle.control.specs.Halves.{joined}
 use Rattle.rules.proofs.ByCore.{leaves}
 use Rattle.job.specs.Settings.{choices_in}
+use Rattle.walk.proofs.Advanced.{advanced}
 use Rattle.walk.proofs.advance.Goals as goal
 
 pub returns-else-not-leaves_record : goal.returns-else-not-leaves_record
@@ -13,5 +12,5 @@ returns-else-not-leaves_record c = let a = c.args in
 
 pub returns-then-not-leaves_record : goal.returns-then-not-leaves_record
 returns-then-not-leaves_record c = let a = c.args in
-    let s = choices_in a.fixed.now in
-    c.core_after.ensures s (c.slot_at-slot.ensures a.k.now ∙ ap (λ (n : ℕ). slot_used (thread_at (joined a.k.now s) a.thread) n) c.slot_number.ensures)
+    advanced a.k.now a.fixed.now a.thread a.f
+    c.slot_number.ensures c.slot_at-slot.ensures c.own_at-x.ensures c.own_after-own.ensures c.clear_by-clear.ensures c.last_after-last.ensures c.set_core.ensures

@@ -8,7 +8,7 @@ use Rattle.lines.proofs.compose.refused_text.Goals as goal
 
 pub returns : goal.returns
 unfolding refused_text
-returns c = let b = c.bit.ensures in
+returns c =
     rw (← c.number.ensures)
-    (numbers_text word_refused _ (omega arith) (omega arith) word_at _ (omega arith) (omega arith) (bit_text (bit_of c.args.refused.refusal)) (rw b at c.push_bit.ensures.short) _
-    (c.push.ensures ∙ rw (c.push_bit.ensures.wrote, b, c.push_decimal-2.ensures, c.push_word-2.ensures, c.push_decimal.ensures, c.push_word.ensures, c.new-t.ensures, c.from.ensures)))
+    (numbers_text word_refused _ (omega arith) (omega arith) word_at _ (omega arith) (omega arith) (bit_text (bit_of c.args.refused.refusal)) c.push_bit.ensures.short _
+    (c.push.ensures ∙ rw (c.push_bit.ensures.wrote, c.push_decimal-2.ensures, c.push_word-2.ensures, c.push_decimal.ensures, c.push_word.ensures, c.new-t.ensures, c.from.ensures)))

@@ -7,7 +7,7 @@ use Rattle.datum.specs.Part.{bits_of}
 use Rattle.datum.specs.Read.{sign_of, exponent_of}
 use Rattle.datum.proofs.Places.{sign_at}
 use Rattle.datum.proofs.Parts.{zero_bits}
-use Rattle.datum.proofs.LowPart.{subnormal_built, is_subnormal}
+use Rattle.datum.proofs.LowPart.{subnormal_built, is_subnormal, not_subnormal}
 use Rattle.datum.proofs.finite.Head.low.Goals as goal
 
 pub returns-then-n-eq0 : goal.returns-then-n-eq0
@@ -24,3 +24,7 @@ returns-then-self-units c = let a = c.args in
     (λ i. sign i * 2147483648 + s.0 i * 4096)
     ∙ subnormal_built (h / 1024) a.n (omega arith) e0 e1 (omega arith) (omega arith) s.1
     ∙ ap (λ (s : Bool). bits_of s a.n e) (sign_at h (omega arith))
+
+pub normal-requires : goal.normal-requires
+normal-requires c = let a = c.args in
+    (omega arith, omega arith, not_subnormal a.self.bits a.n (omega arith) (omega arith) c.if-self-units.false)
